@@ -18,7 +18,7 @@ use Rattle.dali_record.proofs.Pushes.{cut_push}
 use Rattle.dali_history.specs.Recovered.{base_of, recovered}
 use Rattle.dali_history.specs.History.{IsHistory}
 use Rattle.dali_history.proofs.Prefixes.{sizes_of-front}
-use Rattle.dali_history.proofs.Restarts.{recovered-same, sizes_of-restarted}
+use Rattle.dali_history.proofs.Restarts.{sizes_of-restarted}
 use Rattle.dali_store.specs.declared.store.FileName.TheVariants.{Log, Anchor}
 use Rattle.dali_store.specs.Store.{Files as Disk, SameBut}
 use Rattle.dali_batch.specs.Appending.{Adds, next_place}
@@ -27,6 +27,7 @@ use Rattle.dali_batch.specs.Log.{AreSpelled, HasFormat, IsFront, LogOf, bodies, 
 use Rattle.dali_batch.proofs.Rows.{batches-append, grown}
 use Rattle.dali_batch.proofs.Unique.{one_log}
 use Rattle.dali_batch.proofs.Fronts.{bodies_join}
+use Rattle.dali_batch.proofs.Bytes.{batches_length}
 use Rattle.dali_system.specs.Run.{log_in}
 use Rattle.dali_crash.specs.Checkpoints.{side_of, turned as turned_to}
 use Rattle.dali_crash.specs.Starts.{IsRestarted, IsFresh, IsLawful}
@@ -34,13 +35,14 @@ use Rattle.dali_crash.proofs.Closing.{lawful_restarts}
 use Rattle.dali_crash.proofs.Traces.{fresh_rests}
 use Rattle.dali_traces.specs.Disks.{AllSpell, IsAnchor, IsImageOf, Spells, image_file, image_name, sizes_in}
 use Rattle.dali_traces.specs.Bridges.{closed_head}
-use Rattle.dali_traces.proofs.Bridges.{batches_length, ends_at, spells_unmoved}
+use Rattle.dali_traces.proofs.Bridges.{ends_at, spells_unmoved}
 use Rattle.dali_traces.proofs.Once.{anchor_once}
 use Rattle.dali_traces.specs.Anchors.{AreAnchored}
 use Rattle.dali_traces.proofs.Changes.{spells_beside, spells_longer, spells_turned}
 use Rattle.dali_resume.specs.Again.{Outcome, closing, closed_log, with_closing, turned, outcome_is}
 use Rattle.dali_resume.specs.Onward.{FitsFront, HandedOut, IsAgainOnward, verdict_of}
 use Rattle.dali_resume.specs.Batches.{misplaced, records_of, verdict_over}
+use Rattle.dali_resume.proofs.Again.{turned_is_fresh as fresh_behind}
 use Rattle.dali_resume.proofs.Batches.{answers_over_batches, both_good, fits_in_batches, front_answers_over_batches}
 use Rattle.dali_resume.proofs.Numbers.{image_stands_within}
 use Rattle.dali_resume.proofs.Stopped.{restarts_onward}
@@ -162,24 +164,7 @@ same_sizes L = sizes_of-restarted L (rolled_list (last_epoch L)) (deleted_list (
 
 -- the image stands right before the batch of Restarted
 pub turned_is_fresh : (L : List Record) (B : List (List Record)) (n : ℕ) (D : Files) → IsRestarting L B → IsFound L B n D → IsRestarted (closed_log L) (turned L D)
-turned_is_fresh L B n D w f = record {
-  closed = L;
-  rolled = rolled_list (last_epoch L);
-  deleted = deleted_list (last_epoch L);
-  log = refl;
-  some = w.some;
-  older = D.batches;
-  batches = refl;
-  spell = found_log L B n D w f;
-  gates = omega arith;
-  number = refl;
-  place = refl;
-  first = refl;
-  weight = refl;
-  next = refl;
-  image = sym (ap (λ z. recovered z (closed_log L)) (same_sizes L) ∙ recovered-same (sizes_of L) L w.some.0 w.some.1 (rolled_list (last_epoch L)) (deleted_list (last_epoch L)) w.some.2);
-  table = refl;
-}
+turned_is_fresh L B n D w f = fresh_behind L D w.some.0 w.some.1 w.some.2 (found_log L B n D w f)
 
 pub starts_behind : StartsBehind
 starts_behind L B n F s w g log rules fits may end current = record {

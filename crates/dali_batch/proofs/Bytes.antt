@@ -1,14 +1,21 @@
 -- What a log reads as while a batch is added.
-use Rattle.std.proofs.Common.{◌≡◌, ◌≢◌, ◌⊎◌, inl, inr, ℕ, ◌+◌, ◌≤◌, ◌<◌, List, [], ◌∷◌, ◌++◌, length, get_or, take, drop, sym, ◌∙◌, ap, subst, arith, append_assoc, length-append, take-append-drop}
+use Rattle.std.proofs.Common.{◌≡◌, ◌≢◌, ◌⊎◌, inl, inr, ℕ, ◌+◌, ◌≤◌, ◌<◌, List, [], ◌∷◌, ◌++◌, length, get_or, take, drop, refl, sym, ◌∙◌, ap, subst, arith, append_assoc, length-append, take-append-drop}
 use Rattle.std.proofs.lemmas.List.{take_at, take-take, get_or-take, get_or_at, drop_at, drop_more, length-take-le, append-nil}
 use Rattle.std.proofs.lemmas.List.{flat_map_more}
 use Rattle.std.proofs.lemmas.Bool.{cases_eq}
 use Rattle.std.specs.List.{AllByRecursion}
+use Rattle.std.specs.Prelude.{sum_by}
+use Rattle.std.proofs.lemmas.List.Sums.{sum_by-cons}
 use Rattle.dali_bytes.specs.Fields.{number32}
 use Rattle.dali_bytes.proofs.Numbers.{length-number32}
+use Rattle.dali_record.specs.declared.records.Record.{Record}
+use Rattle.dali_record.specs.Files.{batch_length}
+use Rattle.dali_record.specs.Spelling.{record_length, spelling}
+use Rattle.dali_record.proofs.Lengths.{length-spelling}
 use Rattle.dali_store.specs.Store.{Torn, Holds}
 use Rattle.dali_batch.specs.Batch.{sized, batch, batches, IsClosedAt, IsBody, Ends, frame_of}
 use Rattle.dali_batch.specs.Appending.{next_place, Adds}
+use Rattle.dali_batch.specs.Log.{AreSpelled, bodies, body_bytes}
 
 pub length-sized : (body : List ℕ) → length (sized body) ≡ length body + 4
 length-sized body = omega (arith, length-append (number32 (length body)) body, length-number32 (length body))
@@ -128,3 +135,14 @@ module _ (at : ℕ) (body : List ℕ) (is : IsBody body) (old rest : List ℕ) (
     | inl open_is ↦ inr (subst (Adds at (body ∷ []) old) (sym (is_gated ∙ ap gated open_is)) open_gate)
     | inr shut ↦ inl (subst (Adds at [] old) (sym is_gated) (shut_gate (get_or c at 0) shut))
   ]
+
+-- ---- the bytes of batches
+pub body_length : (rs : List Record) → AreSpelled rs → length (body_bytes rs) ≡ sum_by record_length rs
+body_length [] all = refl
+body_length (r ∷ rs) all = length-append (spelling r) (body_bytes rs) ∙ (ap (λ n. n + length (body_bytes rs)) (length-spelling r all.0) ∙ (ap (λ n. record_length r + n) (body_length rs all.1) ∙ sym (sum_by-cons record_length r rs)))
+
+pub batches_length : (L : List (List Record)) → AllByRecursion AreSpelled L → length (batches (bodies L)) ≡ sum_by batch_length L
+batches_length [] all = refl
+batches_length (rs ∷ L) all =
+    let one : length (batch (body_bytes rs)) ≡ batch_length rs = omega (arith, length-batch (body_bytes rs), body_length rs all.0) in
+    length-append (batch (body_bytes rs)) (batches (bodies L)) ∙ (ap (λ n. n + length (batches (bodies L))) one ∙ (ap (λ n. batch_length rs + n) (batches_length L all.1) ∙ sym (sum_by-cons batch_length rs L)))

@@ -1,8 +1,9 @@
 -- What a crash leaves in each step while a batch is added.
 use Rattle.std.proofs.Common.{◌≡◌, ◌⊎◌, inl, inr, ℕ, ◌+◌, ◌<◌, ◌≤◌, List, [], ◌∷◌, ◌++◌, length, get_or, take, drop, refl, sym, ◌∙◌, ap, subst, arith, append_assoc, length-append, Option, Some, None, IfSome}
 use Rattle.std.proofs.lemmas.List.{take_more}
-use Rattle.dali_store.specs.Store.{Files, Holds, HoldsIn, Torn, TornIn, Follows}
+use Rattle.dali_store.specs.Store.{Files, Holds, HoldsIn, Torn, TornIn, Follows, Elapses, LeavesOnly}
 use Rattle.dali_store.specs.declared.store.FileName.TheVariants.{Log}
+use Rattle.dali_store.proofs.Moments.{started, goes_on}
 use Rattle.dali_batch.specs.Batch.{batch, IsClosedAt, IsBody, frame_of}
 use Rattle.dali_batch.specs.Appending.{next_place, Adds, SomeAdded, AllAdded}
 use Rattle.dali_batch.proofs.Bytes.{closed_same, before_of, none_more, take_below, gated, gate_at, regrouped, torn_gate, written_gate, either, open_gate, open_closed, length-frame_of, length-batch}
@@ -123,3 +124,27 @@ module _ (at : ℕ) (body : List ℕ) (is : IsBody body) (may0 : Files → Type 
             log = (fs, now, subst (Adds at (body ∷ []) fs.log) (sym open_is) (open_gate at body is fs.log rest inside));
             closed = subst (IsClosedAt (next_place at (body ∷ []))) (sym open_is) (open_closed at body is fs.log rest inside);
           }
+
+-- ---- all moments of the calls
+module _ {D : Type 0} (moment : D → ℕ) (left_since : D → ℕ → Files → Type 0) (at : ℕ) (body : List ℕ) (is : IsBody body) (may0 may1 : Files → Type 0) (closed : (c : Files) → may0 c → IsClosedAt at c.log) (n : ℕ) (s0 s1 : D)
+    (only : (c : Files) → left_since s0 (moment s0) c → may0 c) (first : Follows (TornIn Log (at + 1) n) may0 may1) (time1 : Elapses (moment s0) (moment s1) (left_since s0) (left_since s1) may1) where
+  -- the frame is written
+  pub staged_run : LeavesOnly moment left_since s0 s1 (SomeAdded may0 at (body ∷ []))
+  staged_run =
+      let start = started moment left_since s0 (SomeAdded may0 at (body ∷ [])) (λ c left. at_start at body is may0 closed c (only c left)) in
+      goes_on moment left_since s0 s0 s1 (SomeAdded may0 at (body ∷ [])) may1 start time1 (stage_crash at body is may0 closed n may1 first)
+
+  module _ (s2 : D) (may2 : Files → Type 0) (kept : (c : Files) → may2 c → may1 c) (time2 : Elapses (moment s1) (moment s2) (left_since s1) (left_since s2) may2) where
+    -- the log is synced
+    pub synced_run : LeavesOnly moment left_since s0 s2 (SomeAdded may0 at (body ∷ []))
+    synced_run = goes_on moment left_since s0 s1 s2 (SomeAdded may0 at (body ∷ [])) may2 staged_run time2 (λ c left. stage_crash at body is may0 closed n may1 first c (kept c left))
+
+    -- the gate is opened
+    pub opened_run : (s3 : D) (may3 : Files → Type 0) → Elapses (moment s2) (moment s3) (left_since s2) (left_since s3) may3 → ((c : Files) → may3 c → SomeAdded may0 at (body ∷ []) c) → LeavesOnly moment left_since s0 s3 (SomeAdded may0 at (body ∷ []))
+    opened_run s3 may3 time3 gate = goes_on moment left_since s0 s2 s3 (SomeAdded may0 at (body ∷ [])) may3 synced_run time3 gate
+
+    -- the log is synced again
+    pub whole_run : (s3 s4 : D) (may3 may4 : Files → Type 0) → Elapses (moment s2) (moment s3) (left_since s2) (left_since s3) may3 → ((c : Files) → may4 c → may3 c) → Elapses (moment s3) (moment s4) (left_since s3) (left_since s4) may4
+        → ((c : Files) → may3 c → SomeAdded may0 at (body ∷ []) c) → LeavesOnly moment left_since s0 s4 (SomeAdded may0 at (body ∷ []))
+    whole_run s3 s4 may3 may4 time3 kept2 time4 gate =
+        goes_on moment left_since s0 s3 s4 (SomeAdded may0 at (body ∷ [])) may4 (opened_run s3 may3 time3 gate) time4 (λ c left. gate c (kept2 c left))

@@ -1,9 +1,10 @@
 -- What a crash leaves in each step while a log is formatted.
 use Rattle.std.proofs.Common.{◌≡◌, ◌⊎◌, inl, inr, ℕ, zero, suc, ◌+◌, ◌≤◌, ◌<◌, List, [], ◌∷◌, ◌++◌, length, take, drop, refl, sym, ◌∙◌, subst, arith, Option, Some, None, IfSome}
-use Rattle.dali_store.specs.Store.{Files, NoLonger, Torn, TornIn, HoldsIn, Follows, SameBut}
+use Rattle.dali_store.specs.Store.{Files, NoLonger, Torn, TornIn, HoldsIn, Follows, SameBut, Elapses, LeavesOnly}
 use Rattle.dali_store.specs.declared.store.FileName.TheVariants.{Log, ImageA, ImageB, Anchor}
+use Rattle.dali_store.proofs.Moments.{started, goes_on}
 use Rattle.dali_batch.specs.Batch.{IsClosedAt, IsUnformatted, Ends}
-use Rattle.dali_batch.specs.Appending.{next_place, Adds, SomeAdded, AllAdded}
+use Rattle.dali_batch.specs.Appending.{Adds, SomeAdded, AllAdded}
 use Rattle.dali_batch.specs.Formatting.{SameImages, CloseLeaves, AreClosed, HasFirst, FormatLeaves, IsFormattedBy}
 use Rattle.dali_batch.proofs.Torn.{torn_same, torn_then}
 
@@ -105,3 +106,31 @@ module _ (may0 : Files → Type 0) where
       anchor = anchor_of added.others.0 c (closed added.others.0 added.others.1) added.others.2;
       log = added.log.2 0 [] (closed_ends added.log.0.log (closed added.log.0 added.log.1).log);
     }
+
+-- ---- all moments of the calls
+module _ {D : Type 0} (moment : D → ℕ) (left_since : D → ℕ → Files → Type 0) (may_leave : D → Files → Type 0) (s0 s1 s2 : D) where
+  -- the log's length is read, and its gate is written
+  module _ (unformatted : (c : Files) → may_leave s0 c → IsUnformatted c.log) (only : (c : Files) → left_since s0 (moment s0) c → may_leave s0 c) (kept : (c : Files) → may_leave s1 c → may_leave s0 c)
+      (time1 : Elapses (moment s0) (moment s1) (left_since s0) (left_since s1) (may_leave s1)) (time2 : Elapses (moment s1) (moment s2) (left_since s1) (left_since s2) (may_leave s2)) (crash : (c : Files) → may_leave s2 c → CloseLeaves (may_leave s0) c) where
+    pub log_run : LeavesOnly moment left_since s0 s2 (CloseLeaves (may_leave s0))
+    log_run =
+        let start = started moment left_since s0 (CloseLeaves (may_leave s0)) (λ c left. close_start (may_leave s0) unformatted c (only c left)) in
+        let first = goes_on moment left_since s0 s0 s1 (CloseLeaves (may_leave s0)) (may_leave s1) start time1 (λ c left. close_start (may_leave s0) unformatted c (kept c left)) in
+        goes_on moment left_since s0 s1 s2 (CloseLeaves (may_leave s0)) (may_leave s2) first time2 crash
+
+    -- the log is synced
+    pub log_synced : (s3 : D) → ((c : Files) → may_leave s3 c → may_leave s2 c) → Elapses (moment s2) (moment s3) (left_since s2) (left_since s3) (may_leave s3) → LeavesOnly moment left_since s0 s3 (CloseLeaves (may_leave s0))
+    log_synced s3 kept3 time3 = goes_on moment left_since s0 s2 s3 (CloseLeaves (may_leave s0)) (may_leave s3) log_run time3 (λ c left. crash c (kept3 c left))
+
+  -- behind a run the anchor's gate is written
+  module _ (counts_now : (s : D) (t : ℕ) (c : Files) → t ≤ moment s → may_leave s c → left_since s t c) (run : LeavesOnly moment left_since s0 s1 (CloseLeaves (may_leave s0)))
+      (torn : Follows (TornIn Anchor 0 1) (may_leave s1) (may_leave s2)) (time : Elapses (moment s1) (moment s2) (left_since s1) (left_since s2) (may_leave s2)) where
+    anchor_crash : (c : Files) → may_leave s2 c → CloseLeaves (may_leave s0) c
+    anchor_crash = close_anchor_crash (may_leave s0) (may_leave s1) (may_leave s2) (λ c left. run.each c (counts_now s1 (moment s0) c run.later left)) torn
+
+    pub anchor_run : LeavesOnly moment left_since s0 s2 (CloseLeaves (may_leave s0))
+    anchor_run = goes_on moment left_since s0 s1 s2 (CloseLeaves (may_leave s0)) (may_leave s2) run time anchor_crash
+
+    -- the anchor is synced
+    pub anchor_synced : (s3 : D) → ((c : Files) → may_leave s3 c → may_leave s2 c) → Elapses (moment s2) (moment s3) (left_since s2) (left_since s3) (may_leave s3) → LeavesOnly moment left_since s0 s3 (CloseLeaves (may_leave s0))
+    anchor_synced s3 kept time3 = goes_on moment left_since s0 s2 s3 (CloseLeaves (may_leave s0)) (may_leave s3) anchor_run time3 (λ c left. anchor_crash c (kept c left))

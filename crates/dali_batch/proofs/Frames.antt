@@ -35,6 +35,13 @@ settled body added moved size e is =
     let count : size ≡ length (body ++ added) = omega (arith, is, length-append body added) in
     ap (λ (l : List ℕ). number32 size ++ l) tail ∙ ap (λ (n : ℕ). number32 n ++ (body ++ added ++ 0 ∷ [])) count ∙ sym (append_assoc (number32 (length (body ++ added))) (body ++ added) (0 ∷ []))
 
+-- bytes that were added stand in the frame
+pub grown : (old slice new body added : List ℕ) (gate : ℕ) → old ≡ frame_of body → ((b a : List ℕ) → slice ≡ frame_of b ++ a → gate ≡ length b + 4 → new ≡ frame_of (b ++ a)) → slice ≡ old ++ added → gate ≡ length body + 4
+    → (new ≡ frame_of (body ++ added)) × (length new ≡ length (body ++ added) + 5)
+grown old slice new body added gate whole settle stood at =
+    let stands : new ≡ frame_of (body ++ added) = settle body added (stood ∙ ap (λ (l : List ℕ). l ++ added) whole) at in
+    (stands, ap length stands ∙ length-frame_of (body ++ added))
+
 -- a slice of all items was written
 pub written_whole : (n : ℕ) (new items : List ℕ) → n ≡ length new → take n (new ++ drop (length new) items) ≡ new
 written_whole n new items e = take_at new (drop (length new) items) n (sym e)

@@ -8,11 +8,11 @@ use Rattle.dali_record.specs.declared.records.Record.TheVariants.{Format}
 use Rattle.dali_record.specs.Spelling.{spelling, CanBeSpelled, Begins}
 use Rattle.dali_batch.specs.Batch.{batch, IsClosedAt}
 use Rattle.dali_batch.specs.Finding.{BatchAt, IsBad}
-use Rattle.dali_batch.specs.Log.{body_bytes, records_in, LogOf, BadAt, IsRun, BadBehind, AreSpelled}
+use Rattle.dali_batch.specs.Log.{body_bytes, records_in, LogOf, BadAt, IsRun, BadBehind, HasNoFormat, IsBadFirst, AreSpelled}
 use Rattle.dali_batch.specs.declared.reader.Placed.{Placed}
-use Rattle.dali_batch.specs.Stream.{Reading, Covers, IsWindow, IsWithin, IsReadFrom, IsReadTo, is_first, place_of, HandsOut, GoesOn, EndsAt, IsBadFrom, Stays, Keeps}
+use Rattle.dali_batch.specs.Stream.{Reading, Covers, IsWindow, IsWithin, IsReadFrom, IsReadTo, is_first, place_of, HandsOut, GoesOn, EndsAt, IsBadFrom, Stays, HasBatch, Keeps}
 use Rattle.dali_batch.proofs.Bodies.{spelled_push, bytes_push}
-use Rattle.dali_batch.proofs.Fronts.{empty_run, run_push, front_of_run, format_more, records_push, bad_behind, log_ends}
+use Rattle.dali_batch.proofs.Fronts.{empty_run, run_push, front_of_run, format_more, no_format, records_push, bad_behind, log_ends}
 
 -- ---- the part that the reader holds
 -- what it holds is what the log has
@@ -68,6 +68,14 @@ rest_of log body past rest place found e =
 -- a reader that was told to go on at a place
 pub sought : (log : List ℕ) (r : Reading) → IsWindow log r → r.at ≡ r.end → IsReadFrom log r.at [] [] r
 sought log r window e = record { window = window; stands = inl (e, empty_run log r.at, refl) }
+
+-- the first batch isn't the one record Format
+pub no_first : (log : List ℕ) (r s : Reading) (size bad : ℕ) (part : List ℕ) → (IsWindow log r → HasBatch log 0 size) → (IsWindow log r → IsWindow log s) → IsWindow log r → Covers s 5 size
+    → part ≡ take size (drop (5 - s.from) s.bytes) → HasNoFormat part → 5 ≡ bad → IsBadFirst log bad
+no_first log r s size bad part is opens start there e none five =
+    let found = is start in
+    let body = part_of log s 5 size (opens start) there in
+    subst (IsBadFirst log) five (no_format log (take size (drop (0 + 5) log)) found.0 (λ index heap can same. none index heap can (e ∙ body.1 ∙ same)))
 
 -- behind the first batch
 pub first_read : (log : List ℕ) (r : Reading) (index heap : ℕ) (end : ℕ) → IsRun log 0 ((Format index heap ∷ []) ∷ []) end → r.at ≡ end → r.end ≡ end → IsWindow log r → IsReadFrom log 0 ((Format index heap ∷ []) ∷ []) [] r

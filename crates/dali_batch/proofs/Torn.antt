@@ -51,3 +51,10 @@ told_then f at n (Some fs) (Some gs) (Some hs) one two = record { torn = torn_th
 -- where it is told as before
 pub told_on : (f : FileName) (at n : ℕ) (t u v : Option Files) → v ≡ u → TornTold f at n t u → TornTold f at n t v
 told_on f at n t u v same torn = subst (TornTold f at n t) (sym same) torn
+
+-- a write behind the place, a sync, and a write at the place, all within n bytes
+pub told_both : (f : FileName) (at m n : ℕ) (t0 t1 t2 t3 : Option Files) → m + 1 ≤ n → TornTold f (at + 1) m t0 t1 → t2 ≡ t1 → TornTold f at 1 t2 t3 → TornTold f at n t0 t3
+told_both f at m n t0 t1 t2 t3 most first same second =
+    told_then f at n t0 t2 t3
+    (told_on f at n t0 t1 t2 same (told_wider f (at + 1) m at n t0 t1 (omega arith) (omega (arith, most)) first))
+    (told_wider f at 1 at n t2 t3 (omega arith) (omega (arith, most)) second)

@@ -17,7 +17,7 @@ pub use error::{BatchError, LogError};
 pub use finding::{Body, Found, find};
 pub use formatting::{format, is_formatted};
 pub use frame::Frame;
-pub use reader::{LogReader, Placed};
+pub use reader::{LogReader, Placed, format_of};
 pub use reading::{Log, read_log};
 pub use writing::{append, flush};
 

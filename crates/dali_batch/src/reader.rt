@@ -73,8 +73,8 @@ fn sizes_of(entry: &Record) -> Option<(u32, u32)>
     }
 }
 
-// The sizes in a body that holds the one record Format, else none.
-fn format_of(alloc: Global, body: &[u8]) -> Option<(u32, u32)>
+/// The sizes in a body that holds the one record Format, else none.
+pub fn format_of(alloc: Global, body: &[u8]) -> Option<(u32, u32)>
     ensures some { IfSome result (λ sizes. CanBeSpelled (Record.Format sizes.0 sizes.1) × (body.now ≡ spelling (Record.Format sizes.0 sizes.1))) }
     ensures none { IsNone result → (index heap : ℕ) → CanBeSpelled (Record.Format index heap) → body.now ≡ spelling (Record.Format index heap) → ⊥ }
 {

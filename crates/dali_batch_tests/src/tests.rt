@@ -2,10 +2,7 @@
 //! bytes.
 ghost use Rattle.std.specs.Prelude.{◌<◌, length};
 
-use dali_batch::{
-    BatchError, Body, Found, Frame, LogError, LogReader, find, flush, format, is_formatted,
-    read_log,
-};
+use dali_batch::{Found, Frame, LogError, LogReader, find, flush, format, is_formatted, read_log};
 use dali_bytes::{OutOfMemory, put, put_byte, put32};
 use dali_memstore::{CallKind, Fuse, Hook, MemoryStore, Watch};
 use dali_store::{FileName, Store, StoreFault};
@@ -22,54 +19,87 @@ const COMMIT: [u8; 9] = [5, 0, 0, 0, 0, 0, 0, 0, 1];
 // No log is so long.
 const LIMIT: u64 = 1 << 62;
 
-// A store whose log has these bytes and then those.
-fn store_of(alloc: Global, front: &[u8], rest: &[u8]) -> Result<MemoryStore, LogError> {
-    let mut log = Vec::new(alloc);
-    if log.extend_from_slice(front).is_err() || log.extend_from_slice(rest).is_err() {
-        return Err(LogError::OutOfMemory);
-    }
+// A store with this log, of which the calls with these numbers fail.
+fn store_of(alloc: Global, log: Vec<u8>, failing: Vec<u64>) -> MemoryStore {
     let files = [log, Vec::new(alloc), Vec::new(alloc), Vec::new(alloc)];
-    Ok(MemoryStore::with(files, Vec::new(alloc)))
+    MemoryStore::with(files, failing)
 }
 
 // How many records a log of these bytes has, and where it ends.
-fn read(alloc: Global, front: &[u8], rest: &[u8]) -> Result<(usize, u64), LogError> {
-    let mut store = store_of(alloc, front, rest)?;
+fn read(alloc: Global, log: Vec<u8>) -> Result<(usize, u64), LogError> {
+    let mut store = store_of(alloc, log, Vec::new(alloc));
     let log = read_log(alloc, &mut store)?;
     Ok((log.records.len(), log.end))
 }
 
+// In each line a name, a log in base 16, and what is read of it: how many records it has and where it ends, or why not.
+const LOGS: &str = "\
+no byte: = Err(Unformatted)
+an open gate: a5 = Err(Unformatted)
+a closed first gate: 00a5 = Err(Unformatted)
+two bytes of the first batch: a500 = Err(BadLog { at: 1 })
+all but its last byte: a50000000a010100000001000000 = Err(BadLog { at: 1 })
+no gate behind it: a50000000a01010000000100000001 = Err(BadLog { at: 15 })
+the first batch: a50000000a0101000000010000000100 = Ok((1, 15))
+bytes behind a closed gate: a50000000a01010000000100000001010000 = Ok((1, 15))
+a length of 100: a50000000a01010000000100000001a50000006400 = Err(BadLog { at: 16 })
+a record of no row: a50000000a01010000000100000001a500000002080000 = Err(BadLog { at: 21 })
+an audit begins: a50000000a01010000000100000001a5000000010800 = Ok((2, 21))
+an audit begins first: a5000000010800 = Err(BadLog { at: 5 })
+";
+
+// In each line a name, a log, a place, and what stands there: a batch's body and the place behind it, the end, or why
+// nothing.
+const PLACES: &str = "\
+the first batch: a50000000a01010000000100000001a500000002080900 at 0 = [1, 1, 0, 0, 0, 1, 0, 0, 0, 1] 15
+the second batch: a50000000a01010000000100000001a500000002080900 at 15 = [8, 9] 22
+the end: a50000000a01010000000100000001a500000002080900 at 22 = end
+no gate: a50000000a01010000000100000001a500000002080900 at 23 = BadLog { at: 23 }
+a length of 0: a50000000a01010000000100000001a50000000008 at 15 = BadLog { at: 16 }
+a length of one more than there are bytes: a50000000a01010000000100000001a50000000208 at 15 = BadLog { at: 16 }
+a length of 2^30 + 1: a50000000a01010000000100000001a54000000108 at 15 = BadLog { at: 16 }
+a length that is cut short: a50000000a01010000000100000001a50000 at 15 = BadLog { at: 16 }
+";
+
+// What is read of a log.
+fn read_text(alloc: Global, log: Vec<u8>) -> Option<String> {
+    let answer = read(alloc, log);
+    format!(in alloc; "{answer:?}").ok()
+}
+
+// What stands at a place of a log.
+fn found_text(alloc: Global, log: Vec<u8>, at: u64) -> Option<String> {
+    let mut store = store_of(alloc, log, Vec::new(alloc));
+    match find(alloc, &mut store, at) {
+        Ok(Found::Batch { body, next }) => {
+            let bytes = body.bytes();
+            format!(in alloc; "{bytes:?} {next}").ok()
+        }
+        Ok(Found::End) => String::from_str(alloc, "end").ok(),
+        Err(error) => format!(in alloc; "{error:?}").ok(),
+    }
+}
+
+// What a line asks, with what is answered.
+fn answered(alloc: Global, line: &str) -> Option<String> {
+    let (asked, _) = line.split_once(" = ")?;
+    let (_, log) = asked.split_once(':')?;
+    let answer = match log.split_once(" at ") {
+        Some((log, at)) => {
+            let log = hex::decode(alloc, log.trim()).ok()?;
+            found_text(alloc, log, at.parse::<u64>().ok()?)?
+        }
+        None => read_text(alloc, hex::decode(alloc, log.trim()).ok()?)?,
+    };
+    format!(in alloc; "{asked} = {answer}").ok()
+}
+
 #[test]
 fn logs_are_read_or_refused_at_their_place(rt: HostRuntime) -> Result<(), Fail> {
-    let alloc = rt.alloc();
-    for (length, expected) in [
-        (0, LogError::Unformatted),
-        (1, LogError::Unformatted),
-        (2, LogError::BadLog { at: 1 }),
-        (14, LogError::BadLog { at: 1 }),
-        (15, LogError::BadLog { at: 15 }),
-    ] {
-        assert_eq!(rt; read(alloc, &FIRST[..length], &[]), Err(expected));
+    for line in LOGS.lines().chain(PLACES.lines()) {
+        let found = answered(rt.alloc(), line).ok_or("no answer")?;
+        assert_eq!(rt; found.as_str(), line);
     }
-    assert_eq!(rt; read(alloc, &[0, 0xa5], &[]), Err(LogError::Unformatted));
-    assert_eq!(rt; read(alloc, &FIRST, &[0]), Ok((1, 15)));
-    assert_eq!(rt; read(alloc, &FIRST, &[1, 0, 0]), Ok((1, 15)));
-    let length_of_100 = [0xa5, 0, 0, 0, 100, 0];
-    assert_eq!(rt;
-        read(alloc, &FIRST, &length_of_100),
-        Err(LogError::BadLog { at: 16 })
-    );
-    let record_of_no_row = [0xa5, 0, 0, 0, 2, 8, 0, 0];
-    assert_eq!(rt;
-        read(alloc, &FIRST, &record_of_no_row),
-        Err(LogError::BadLog { at: 21 })
-    );
-    let an_audit_begins = [0xa5, 0, 0, 0, 1, 8, 0];
-    assert_eq!(rt; read(alloc, &FIRST, &an_audit_begins), Ok((2, 21)));
-    assert_eq!(rt;
-        read(alloc, &an_audit_begins, &[]),
-        Err(LogError::BadLog { at: 5 })
-    );
     Ok(())
 }
 
@@ -90,32 +120,34 @@ fn add_to_first<V: Store>(store: &mut V, first: &Frame, second: &Frame) -> Resul
 // The calls before the second batch: a sync, a length and a read; a length, two writes and two syncs; a batch's four.
 const BEFORE: u64 = 12;
 
-// Where the log ends, where it gets the first batch and then these bytes in one, whether more calls were wanted than so many, and how many records
-// it has after a cut.
+// Where the log ends, where it gets the first batch and then these bytes in one; None where a call fails.
+fn add_both<V: Store>(alloc: Global, store: &mut V, bytes: &[u8]) -> Result<Option<u64>, LogError>
+    requires short { length bytes.now < 100 }
+{
+    let (Ok(mut first), Ok(mut second)) = (Frame::new(alloc), Frame::new(alloc)) else {
+        return Err(LogError::OutOfMemory);
+    };
+    if first.add(&FIRST[5..]).is_err() || second.add(bytes).is_err() || first.is_empty() {
+        return Err(LogError::OutOfMemory);
+    }
+    Ok(add_to_first(store, &first, &second).ok())
+}
+
+// Where the log ends where so many calls of the second batch pass, with 0 for None; whether more were wanted, and how many
+// records the log has after a cut.
 fn cut_short(
     alloc: Global,
     bytes: &[u8],
     passes: u64,
     choice: u32,
 ) -> Result<(u64, bool, usize), LogError>
-    requires few { passes < 100 }
     requires short { length bytes.now < 100 }
 {
     let mut fuse = Fuse::new(
         MemoryStore::new(alloc, Vec::new(alloc)),
-        Some(BEFORE + passes),
+        Some(BEFORE.saturating_add(passes)),
     );
-    let (Ok(mut first), Ok(mut second)) = (Frame::new(alloc), Frame::new(alloc)) else {
-        return Err(LogError::OutOfMemory);
-    };
-    if first.add(&FIRST[5..]).is_err() || second.add(bytes).is_err() {
-        return Err(LogError::OutOfMemory);
-    }
-    let end = if first.is_empty() {
-        0
-    } else {
-        add_to_first(&mut fuse, &first, &second).unwrap_or(0)
-    };
+    let end = add_both(alloc, &mut fuse, bytes)?.unwrap_or(0);
     let spent = fuse.spent();
     let mut store = fuse.into_inner();
     store.cut(choice)?;
@@ -134,36 +166,28 @@ fn a_batch_takes_four_calls(rt: HostRuntime) -> Result<(), Fail> {
         (4, 29, 2, 2),
     ] {
         assert_eq!(rt;
-            cut_short(alloc, &COMMIT, passes, 0),
-            Ok((end, end == 0, kept))
-        );
-        assert_eq!(rt;
-            cut_short(alloc, &COMMIT, passes, 1),
-            Ok((end, end == 0, dropped))
+            (
+                cut_short(alloc, &COMMIT, passes, 0),
+                cut_short(alloc, &COMMIT, passes, 1)
+            ),
+            (Ok((end, end == 0, kept)), Ok((end, end == 0, dropped)))
         );
     }
     Ok(())
 }
 
+#[test]
+fn an_empty_frame_takes_no_call(rt: HostRuntime) -> Result<(), Fail> {
+    assert_eq!(rt; cut_short(rt.alloc(), &[], 0, 1), Ok((15, false, 1)));
+    Ok(())
+}
+
 // The same where one call of the second batch fails, and each later one would pass: whether the flush failed, and how many
 // records are there after a cut.
-fn fail_one(alloc: Global, call: u64, choice: u32) -> Result<(bool, usize), LogError>
-    requires few { call < 100 }
-{
-    let files = [
-        Vec::new(alloc),
-        Vec::new(alloc),
-        Vec::new(alloc),
-        Vec::new(alloc),
-    ];
-    let mut store = MemoryStore::with(files, vec![in alloc; BEFORE + call]?);
-    let (Ok(mut first), Ok(mut second)) = (Frame::new(alloc), Frame::new(alloc)) else {
-        return Err(LogError::OutOfMemory);
-    };
-    if first.add(&FIRST[5..]).is_err() || second.add(&COMMIT).is_err() {
-        return Err(LogError::OutOfMemory);
-    }
-    let failed = !first.is_empty() && add_to_first(&mut store, &first, &second).is_err();
+fn fail_one(alloc: Global, call: u64, choice: u32) -> Result<(bool, usize), LogError> {
+    let failing = vec![in alloc; BEFORE.saturating_add(call)]?;
+    let mut store = store_of(alloc, Vec::new(alloc), failing);
+    let failed = add_both(alloc, &mut store, &COMMIT)?.is_none();
     store.cut(choice)?;
     let log = read_log(alloc, &mut store)?;
     Ok((failed, log.records.len()))
@@ -174,83 +198,18 @@ fn fail_one(alloc: Global, call: u64, choice: u32) -> Result<(bool, usize), LogE
 fn each_call_of_a_batch_may_fail(rt: HostRuntime) -> Result<(), Fail> {
     let alloc = rt.alloc();
     for (call, kept, dropped) in [(0, 1, 1), (1, 1, 1), (2, 1, 1), (3, 2, 1)] {
-        assert_eq!(rt; fail_one(alloc, call, 0), Ok((true, kept)));
-        assert_eq!(rt; fail_one(alloc, call, 1), Ok((true, dropped)));
+        assert_eq!(rt;
+            (fail_one(alloc, call, 0), fail_one(alloc, call, 1)),
+            (Ok((true, kept)), Ok((true, dropped)))
+        );
     }
-    Ok(())
-}
-
-// What stands at a place of a log of the first batch and these bytes: a batch's body and the place behind it, or the end.
-fn found_at(alloc: Global, bytes: &[u8], at: u64) -> Result<Option<(Body, u64)>, BatchError> {
-    let Ok(mut store) = store_of(alloc, &FIRST, bytes) else {
-        return Err(BatchError::OutOfMemory);
-    };
-    match find(alloc, &mut store, at)? {
-        Found::Batch { body, next } => Ok(Some((body, next))),
-        Found::End => Ok(None),
-    }
-}
-
-#[test]
-fn a_batch_is_found_at_its_place(rt: HostRuntime) -> Result<(), Fail> {
-    let alloc = rt.alloc();
-    let log = [0xa5, 0, 0, 0, 2, 8, 9, 0];
-    for (at, bytes, end) in [(0, &FIRST[5..], 15), (15, &[8, 9], 22)] {
-        match found_at(alloc, &log, at) {
-            Ok(Some((body, next))) => {
-                assert_eq!(rt; body.bytes(), bytes);
-                assert_eq!(rt; next, end);
-            }
-            _ => assert!(rt; false),
-        }
-    }
-    assert!(rt; matches!(&found_at(alloc, &log, 22), Ok(None)));
-    // No gate stands there; the length is 0; it is one more than there are bytes; it is 2^30 + 1; it is cut short.
-    for (bytes, at, bad) in [
-        (log.as_slice(), 23, 23),
-        (&[0xa5, 0, 0, 0, 0, 8], 15, 16),
-        (&[0xa5, 0, 0, 0, 2, 8], 15, 16),
-        (&[0xa5, 0x40, 0, 0, 1, 8], 15, 16),
-        (&[0xa5, 0, 0], 15, 16),
-    ] {
-        match found_at(alloc, bytes, at) {
-            Err(BatchError::BadLog { at }) => assert_eq!(rt; at, bad),
-            _ => assert!(rt; false),
-        }
-    }
-    Ok(())
-}
-
-// 120,000 Commits of 9 bytes, behind the first batch of 15
-#[test]
-fn a_batch_past_a_mebibyte_is_found(rt: HostRuntime) -> Result<(), Fail> {
-    let alloc = rt.alloc();
-    let log = long_log(alloc, 120_000, 0, 1).or(Err("no memory for a log"))?;
-    let mut store = store_of(alloc, &log, &[]).or(Err("no memory for a store"))?;
-    match find(alloc, &mut store, 15) {
-        Ok(Found::Batch { body, next }) => {
-            assert_eq!(rt; body.bytes().len(), 1_080_000);
-            assert_eq!(rt; next, 1_080_020);
-        }
-        _ => assert!(rt; false),
-    }
-    Ok(())
-}
-
-#[test]
-fn an_empty_frame_takes_no_call(rt: HostRuntime) -> Result<(), Fail> {
-    let alloc = rt.alloc();
-    assert_eq!(rt; cut_short(alloc, &[], 0, 1), Ok((15, false, 1)));
     Ok(())
 }
 
 // Adds a batch of so many Commits and then so many AuditBegins.
-fn add_batch(log: &mut Vec<u8>, commits: u32, audits: u32) -> Result<(), OutOfMemory>
-    requires few_commits { commits < 200_000 }
-    requires few_audits { audits < 100 }
-{
+fn add_batch(log: &mut Vec<u8>, commits: u32, audits: u32) -> Result<(), OutOfMemory> {
     put_byte(log, 0xa5)?;
-    put32(log, commits * 9 + audits)?;
+    put32(log, commits.saturating_mul(9).saturating_add(audits))?;
     for _ in 0..commits {
         put(log, &COMMIT)?;
     }
@@ -261,17 +220,33 @@ fn add_batch(log: &mut Vec<u8>, commits: u32, audits: u32) -> Result<(), OutOfMe
 }
 
 // A log of the first batch, one of so many Commits and AuditBegins, and one of so many Commits more.
-fn long_log(alloc: Global, commits: u32, audits: u32, more: u32) -> Result<Vec<u8>, OutOfMemory>
-    requires few_commits { commits < 200_000 }
-    requires few_audits { audits < 100 }
-    requires few_more { more < 100_000 }
-{
+fn long_log(alloc: Global, commits: u32, audits: u32, more: u32) -> Result<Vec<u8>, OutOfMemory> {
     let mut log = Vec::new(alloc);
     put(&mut log, &FIRST)?;
     add_batch(&mut log, commits, audits)?;
     add_batch(&mut log, more, 0)?;
     put_byte(&mut log, 0)?;
     Ok(log)
+}
+
+// How many bytes the second batch of such a log has, and the place behind it.
+fn second_of(alloc: Global, commits: u32) -> Option<(usize, u64)> {
+    let log = long_log(alloc, commits, 0, 1).ok()?;
+    let mut store = store_of(alloc, log, Vec::new(alloc));
+    match find(alloc, &mut store, 15) {
+        Ok(Found::Batch { body, next }) => Some((body.bytes().len(), next)),
+        _ => None,
+    }
+}
+
+// 120,000 Commits of 9 bytes, behind the first batch of 15
+#[test]
+fn a_batch_past_a_mebibyte_is_found(rt: HostRuntime) -> Result<(), Fail> {
+    assert_eq!(rt;
+        second_of(rt.alloc(), 120_000),
+        Some((1_080_000, 1_080_020))
+    );
+    Ok(())
 }
 
 // How many records that log has, and where it ends, without so many of its last bytes.
@@ -281,15 +256,13 @@ fn read_long(
     audits: u32,
     more: u32,
     cut: usize,
-) -> Result<(usize, u64), LogError>
-    requires few_commits { commits < 200_000 }
-    requires few_audits { audits < 100 }
-    requires few_more { more < 100_000 }
-{
-    match long_log(alloc, commits, audits, more) {
-        Ok(log) => read(alloc, &log[..log.len().saturating_sub(cut)], &[]),
-        Err(OutOfMemory) => Err(LogError::OutOfMemory),
-    }
+) -> Result<(usize, u64), LogError> {
+    let Ok(mut log) = long_log(alloc, commits, audits, more) else {
+        return Err(LogError::OutOfMemory);
+    };
+    let left = log.len().saturating_sub(cut);
+    log.truncate(left);
+    read(alloc, log)
 }
 
 // A part of the file that is read at once has 262,144 bytes. The second batch here is longer, or ends so that the third
@@ -316,19 +289,20 @@ fn logs_are_read_across_the_parts(rt: HostRuntime) -> Result<(), Fail> {
 
 // A log between whose first batch and place 35 stands nothing that is a batch.
 fn log_with_a_gap(alloc: Global) -> Result<MemoryStore, LogError> {
-    let mut rest = Vec::new(alloc);
+    let mut log = Vec::new(alloc);
     for part in [
+        FIRST.as_slice(),
         [7; 20].as_slice(),
         &[0xa5, 0, 0, 0, 19],
         &COMMIT,
         &COMMIT,
         &[8, 0xa5, 0, 0, 0, 1, 8, 0],
     ] {
-        if rest.extend_from_slice(part).is_err() {
+        if log.extend_from_slice(part).is_err() {
             return Err(LogError::OutOfMemory);
         }
     }
-    store_of(alloc, &FIRST, &rest)
+    Ok(store_of(alloc, log, Vec::new(alloc)))
 }
 
 // From a place on, where the records begin, which of them are the first of their batch, and where the log ends.
@@ -349,9 +323,11 @@ fn placed_in<V: Store>(
     Ok((placed, reader.at()))
 }
 
-fn placed_from(alloc: Global, at: u64) -> Result<(Vec<(u64, bool)>, u64), LogError> {
+// Whether these records are found from a place on, and where the log ends.
+fn are_placed(alloc: Global, at: u64, expected: &[(u64, bool)]) -> Result<(bool, u64), LogError> {
     let mut store = log_with_a_gap(alloc)?;
-    placed_in(alloc, &mut store, at)
+    let (placed, end) = placed_in(alloc, &mut store, at)?;
+    Ok((placed.as_slice() == expected, end))
 }
 
 // Counts the reads of a log, and those of them that reach into a range of its bytes.
@@ -401,16 +377,25 @@ fn no_byte_between_the_first_batch_and_the_place_is_read(rt: HostRuntime) {
 #[test]
 fn a_log_is_read_from_a_place(rt: HostRuntime) -> Result<(), Fail> {
     let alloc = rt.alloc();
-    let (placed, end) = placed_from(alloc, 35).or(Err("not read"))?;
-    let expected = [(40, true), (49, false), (58, false), (64, true)];
-    assert!(rt; placed.as_slice() == expected.as_slice() && end == 65);
-    let (placed, end) = placed_from(alloc, 59).or(Err("not read"))?;
-    assert!(rt; placed.as_slice() == [(64, true)].as_slice() && end == 65);
-    let (placed, end) = placed_from(alloc, 15).or(Err("not read"))?;
-    assert!(rt; placed.is_empty() && end == 15);
-    for (at, bad) in [(66, 66), (67, 67)] {
-        let found = placed_from(alloc, at).err();
-        assert!(rt; found == Some(LogError::BadLog { at: bad }), "from {at}");
-    }
+    assert_eq!(rt;
+        (
+            are_placed(
+                alloc,
+                35,
+                &[(40, true), (49, false), (58, false), (64, true)]
+            ),
+            are_placed(alloc, 59, &[(64, true)]),
+            are_placed(alloc, 15, &[]),
+            are_placed(alloc, 66, &[]),
+            are_placed(alloc, 67, &[])
+        ),
+        (
+            Ok((true, 65)),
+            Ok((true, 65)),
+            Ok((true, 15)),
+            Err(LogError::BadLog { at: 66 }),
+            Err(LogError::BadLog { at: 67 })
+        )
+    );
     Ok(())
 }

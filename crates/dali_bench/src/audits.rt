@@ -1,14 +1,12 @@
 //! Audits of a database whose regions are as they were formatted.
-ghost use Rattle.std.specs.Prelude.{◌≡◌, ◌<◌, ◌^◌, length, map, OnOk};
+ghost use Rattle.std.specs.Prelude.{◌≡◌, ◌<◌, ◌^◌, length, OnOk};
 ghost use Rattle.dali_geometry.specs.Places.{regions as regions_of};
-ghost use Rattle.dali_audit.specs.declared.audit.Finding.TheVariants.{Waiting};
-ghost use Rattle.dali_region.specs.State.{checked};
-ghost use Rattle.dali_checkpoint.specs.Making.{found_in};
 
 use crate::calls::{LIMIT, load};
 use crate::timing::Timing;
 use anyhow::{Result, ensure};
 use dali_audit::{Audit, Verdict};
+use dali_checkpoint::pass_all;
 use dali_core::System;
 use dali_geometry::Geometry;
 use dali_region::Region;
@@ -23,18 +21,6 @@ const AUDITS: u32 = 10;
 pub fn sizes_for(regions: u32) -> Result<Geometry> {
     let index = regions / 3;
     Ok(Geometry::new(index, regions - index)?)
-}
-
-// Passes all regions.
-fn pass_all(audit: &mut Audit, regions: &mut [Region])
-    requires all { audit.old.findings ≡ map (λ _. Waiting) regions.old }
-    requires few { length regions.old < 2 ^ 32 }
-    ensures found { audit.new ≡ record audit.old { findings = map found_in regions.old } }
-    ensures regions { regions.new ≡ map checked regions.old }
-{
-    for number in 0..regions.len() {
-        audit.pass(number as u32, &mut regions[number]);
-    }
 }
 
 /// An audit of all regions.

@@ -1,16 +1,22 @@
 -- What calls of regions do to the flags of images.
-use Rattle.std.proofs.Common.{◌≡◌, ℕ, Bool, true, false, List, Some, refl, ap, sym, subst, ◌∙◌, ⊎_elim, slice_get, slice_set}
+use Rattle.std.proofs.Common.{◌≡◌, ℕ, Bool, true, false, List, [], ◌∷◌, Some, refl, ap, sym, subst, ◌∙◌, ⊎_elim, slice_get, slice_set}
 use Rattle.std.proofs.lemmas.List.{length-set}
 use Rattle.dali_lists.proofs.Lists.{set_cases}
 use Rattle.dali_lists.proofs.Tests.{left_false}
 use Rattle.dali_region.specs.declared.Side.TheVariants.{A, B}
 use Rattle.dali_region.specs.State.{RegionState, touched, taken_back, wrote}
+use Rattle.dali_system.specs.State.{SystemState}
 use Rattle.dali_system.specs.Regions.{RegionStep, Latch, NoteReads, Update, TakeBack, Poke, Check, Die, Clean, region_after}
+use Rattle.dali_core.specs.declared.take_back.TakeBack.{TakeBack as Back}
 use Rattle.dali_calls.specs.Flags.{FlagStays, FlagsStay}
+use Rattle.dali_calls.specs.Operating.{IsOwn, Goes, IsTakenBack, Undone}
 
 -- ---- one region
 pub flag_same : (g : RegionState) → FlagStays g g
 flag_same g side e = e
+
+pub flag_equal : (g h : RegionState) → h ≡ g → FlagStays g h
+flag_equal g h e = subst (λ (k : RegionState). FlagStays g k) (sym e) (flag_same g)
 
 pub flag_further : (g h k : RegionState) → FlagStays g h → FlagStays h k → FlagStays g k
 flag_further g h k one two side e = one side (two side e)
@@ -40,6 +46,27 @@ flag_after (Poke word mask) g e = flag_kept g (region_after (Poke word mask) g) 
 flag_after Check g e = flag_kept g (region_after Check g) refl refl
 flag_after Die g e = flag_kept g (region_after Die g) refl refl
 flag_after (Clean side) g e = absurd cc
+
+-- ---- the operations of one transaction
+own_flag : (t : ℕ) (x : RegionStep) (g : RegionState) → IsOwn t x g → FlagStays g (region_after x g)
+own_flag t (Latch u) g own = flag_after (Latch u) g refl
+own_flag t (NoteReads mask) g own = flag_after (NoteReads mask) g refl
+own_flag t (Update word value) g own = flag_after (Update word value) g refl
+own_flag t TakeBack g own = flag_after TakeBack g refl
+own_flag t x g own = absurd own
+
+pub goes_flag : (t : ℕ) (g : RegionState) (xs : List RegionStep) (h : RegionState) → Goes t g xs h → FlagStays g h
+goes_flag t g [] h goes = flag_equal g h (sym goes)
+goes_flag t g (x ∷ xs) h goes = flag_further g (region_after x g) h (own_flag t x g goes.1) (goes_flag t (region_after x g) xs h goes.2)
+
+pub done_flag : (t : ℕ) (g opened h : RegionState) (xs : List RegionStep) → Goes t g xs opened → h ≡ touched opened → FlagStays g h
+done_flag t g opened h xs goes done = subst (λ (k : RegionState). FlagStays g k) (sym done) (flag_further g opened (touched opened) (goes_flag t g xs opened goes) (flag_touched opened))
+
+pub undone_flag : (p q : Back) (g h : RegionState) (y z : SystemState) → Undone p g y q h z → FlagStays g h
+undone_flag p q g h y z o = done_flag p.txn g o.opened h o.steps o.goes o.region
+
+pub taken_back_flag : (t : ℕ) (g h : RegionState) → IsTakenBack t g h → FlagStays g h
+taken_back_flag t g h back = goes_flag t g back.0 h back.1
 
 -- ---- all regions
 pub flags_same : (gs : List RegionState) → FlagsStay gs gs

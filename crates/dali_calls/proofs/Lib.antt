@@ -8,3 +8,7 @@ pub mod Answering
 pub mod Stepping
 pub mod TakingBack
 pub mod Flags
+pub mod Operating
+pub mod Undoing
+pub mod Rows
+pub mod Others

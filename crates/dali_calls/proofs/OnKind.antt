@@ -64,9 +64,6 @@ abbrev pub IsKind : Sizes → Option (ℕ × Op) → Type 0
 IsKind s None = ⊤
 IsKind s (Some o) = (on_kind s o.0 o.1 ≡ true) × (is_forward o.1 ≡ true)
 
-index_kind : (s : Sizes) (r : ℕ) → r < s.index → is_index s r ≡ true
-index_kind s r h = lt-ltb r s.index h
-
 heap_kind : (s : Sizes) (r : ℕ) → s.index ≤ r → r < regions s → is_heap s r ≡ true
 heap_kind s r low high = and_from (nat_le s.index r) (nat_lt r (regions s)) (le-leb s.index r low) (lt-ltb r (regions s) high)
 
@@ -81,8 +78,8 @@ cell_kind s (Get key) place true e = (left_true (is_heap s (region_at place)) (n
 cell_kind s call place false e = tt
 
 stage_kind : (s : Sizes) (t : ℕ) (call : Call) (stage : Stage) → AreInRange s → IsAt s call stage → IsKind s (next_op s t call stage)
-stage_kind s t call Fresh range at = (index_kind s (home s (call_key call)) (mod-lt (call_key call) (omega (arith, range.some_index))), refl)
-stage_kind s t call (Walking region looked) range at = (index_kind s region at.0, refl)
+stage_kind s t call Fresh range at = (lt-ltb (home s (call_key call)) s.index (mod-lt (call_key call) (omega (arith, range.some_index))), refl)
+stage_kind s t call (Walking region looked) range at = (lt-ltb region s.index at.0, refl)
 stage_kind s t (Insert key v) Nowhere range at = (start_kind s t range, refl)
 stage_kind s t (Update key v) Nowhere range at = tt
 stage_kind s t (Delete key) Nowhere range at = tt
@@ -92,8 +89,8 @@ stage_kind s t (Insert key v) (Storing region tried) range at = (heap_kind s reg
 stage_kind s t (Update key v) (Storing region tried) range at = tt
 stage_kind s t (Delete key) (Storing region tried) range at = tt
 stage_kind s t (Get key) (Storing region tried) range at = tt
-stage_kind s t call (Adding place region tried) range at = (index_kind s region at.1, refl)
-stage_kind s t call (Removing region entry place) range at = (index_kind s region at.0, refl)
+stage_kind s t call (Adding place region tried) range at = (lt-ltb region s.index at.1, refl)
+stage_kind s t call (Removing region entry place) range at = (lt-ltb region s.index at.0, refl)
 stage_kind s t call (Finished answer) range at = tt
 
 onward_kind : (s : Sizes) (phase : Phase) (o : Option (ℕ × Op)) → IsKind s o → IsKind s (onward_next phase o)

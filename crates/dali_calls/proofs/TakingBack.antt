@@ -1,17 +1,29 @@
--- A commit of a taking back is a step of a core.
-use Rattle.std.proofs.Common.{◌≡◌, ℕ, ap, refl, ◌∙◌}
+-- Whose undos a clean-up performs, and that a commit of a taking back is a step of a core.
+use Rattle.std.proofs.Common.{◌≡◌, ℕ, Option, Some, None, IsSomeAnd, ap, refl, sym, subst, ◌∙◌}
 use Rattle.std.specs.Prelude.{slice_get}
 use Rattle.dali_record.specs.declared.operations.Block.{Block}
 use Rattle.dali_record.specs.Operations.{undo_op}
 use Rattle.dali_record.specs.Blocks.{changes_item}
 use Rattle.dali_record.specs.Legal.{on_kind}
 use Rattle.dali_record.specs.Spelling.{is_back}
+use Rattle.dali_att.specs.declared.state.State.{State}
+use Rattle.dali_att.specs.declared.state.State.TheVariants.{Live, Dead, Cleaning, Committed}
 use Rattle.dali_system.specs.State.{lock_of}
 use Rattle.dali_system.specs.Run.{covers}
 use Rattle.dali_facts.proofs.Plans.{take_back_goes_on}
-use Rattle.dali_calls.specs.TakingBack.{TakeBackIsStep}
+use Rattle.dali_calls.specs.TakingBack.{is_claimed, TakeBackIsStep}
 use Rattle.dali_calls.proofs.Stepping.{covers_all, state_there}
 use Rattle.dali_calls.proofs.OnKind.{undo_back}
+
+pub claimed_by : (o : Option State) (latched : Option ℕ) → o ≡ Some (Cleaning latched) → IsSomeAnd o is_claimed
+claimed_by o latched e = subst (λ z. IsSomeAnd z is_claimed) (sym e) tt
+
+pub latched_of : (o : Option State) → IsSomeAnd o is_claimed → (latched : Option ℕ) × (o ≡ Some (Cleaning latched))
+latched_of None h = absurd h
+latched_of (Some Live) h = absurd h
+latched_of (Some (Dead latched)) h = absurd h
+latched_of (Some (Cleaning latched)) h = (latched, refl)
+latched_of (Some Committed) h = absurd h
 
 pub taking_back_is_step : TakeBackIsStep
 taking_back_is_step L c t w u b g at_work last may =

@@ -5,3 +5,5 @@ pub mod Fields
 pub mod Followed
 pub mod TakingBack
 pub mod Flags
+pub mod Operating
+pub mod Others

@@ -1,7 +1,8 @@
 -- A transaction is taken back, in words of the log: each commit of the plan is a step of a core.
+--     is_claimed st            a clean-up has claimed the transaction of this state
 --     MayTakeBack c t u b g    the client of t, or who claimed it, may log b, which performs the undo u on the region g
 --     IsTakenBackBy ..         the step is taken, and then the rest of the undos is left
-use Rattle.std.specs.Prelude.{◌≡◌, ℕ, true, List, [], ◌∷◌, ◌++◌, Some, None, slice_get}
+use Rattle.std.specs.Prelude.{◌≡◌, ⊤, ℕ, true, List, [], ◌∷◌, ◌++◌, Some, None, slice_get}
 use Rattle.dali_record.specs.declared.operations.Block.{Block}
 use Rattle.dali_record.specs.declared.operations.Pending.{Pending}
 use Rattle.dali_record.specs.declared.records.Record.{Record}
@@ -11,6 +12,8 @@ use Rattle.dali_record.specs.Log.{last_of, drop_last}
 use Rattle.dali_record.specs.Legal.{Working, on_kind}
 use Rattle.dali_record.specs.Spelling.{Is64}
 use Rattle.dali_region.specs.State.{RegionState}
+use Rattle.dali_att.specs.declared.state.State.{State}
+use Rattle.dali_att.specs.declared.state.State.TheVariants.{Cleaning}
 use Rattle.dali_system.specs.State.{CoreState, state_of, lock_of}
 use Rattle.dali_system.specs.Run.{covers}
 use Rattle.dali_system.specs.Steps.{back_logged}
@@ -19,6 +22,10 @@ use Rattle.dali_system.specs.Keeps.{may_log_in, with_touched}
 use Rattle.dali_system.specs.Courses.{TakesBack, IsStep}
 use Rattle.dali_facts.specs.Plans.{AtWork}
 use Rattle.dali_core.specs.TakenBack.{IsMadeOf}
+
+abbrev pub is_claimed : State → Type 0
+is_claimed (Cleaning latched) = ⊤
+is_claimed _ = ⊥
 
 pub record MayTakeBack (c : CoreState) (t : ℕ) (u : Pending) (b : Block) (g : RegionState) : Type 0 where
   pub txn : Is64 t

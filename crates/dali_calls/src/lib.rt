@@ -5,10 +5,12 @@ mod changes;
 pub mod laws;
 mod plan;
 mod stage;
+mod writing;
 
 pub use changes::Changes;
 pub use plan::{Phase, Plan};
 pub use stage::Stage;
+pub use writing::{write_all, write_back};
 
 #[cfg(test)]
 mod tests;

@@ -54,6 +54,10 @@ use Rattle.dali_checkpoint.proofs.Stays.{Stays, both_stay, is_of_on, copied_on, 
 abbrev made : SystemState → ℕ → ℕ → ℕ → Header
 made y number place n = record { geometry = y.sizes; number = number; place = place; first = y.records; weight = y.end; next = y.next; table = n }
 
+-- ---- a checkpoint has begun
+abbrev pub flagged : Point → Point
+flagged p = record p { core = with_flag p.core true }
+
 -- ---- the records are counted
 pub runs_on_log : (s : Start) (p : Point) → StoreRun (bases_of s) s.log no_image p → RunsOn (bases_of s) p.log p.core
 runs_on_log s p run = subst (λ (L : List Record). RunsOn (bases_of s) L p.core) (sym run.run.log) run.run.run.runs
@@ -185,13 +189,25 @@ module _ {V : Type 0} (told : V → Option Disk) (may_leave : V → Disk → Typ
     pub at : IsCoreAt told may_leave faults s batches to gs z w
     pub begun : to.begun ≡ Some (head_now to.log to.core)
 
+  pub flag_rises : (s : Start) (B : List (List Record)) (p : Point) (gs : List RegionState) (y : SystemState) (v : Vaulted V) → IsIdle told may_leave faults s B p gs y v → IsPointStep p Starts (flagged p)
+  flag_rises s B p gs y v idle = (ap (λ (x : SystemState). x.checking) idle.at.system ∙ idle.flag, refl)
+
+  pub flagged_at : (s : Start) (B : List (List Record)) (p : Point) (gs : List RegionState) (y : SystemState) (v : Vaulted V) → IsIdle told may_leave faults s B p gs y v
+      → IsCoreAt told may_leave faults s B (flagged p) gs (in_checkpoint y true) v
+  flagged_at s B p gs y v idle = record {
+    regions = idle.at.regions;
+    system = ap (λ (x : SystemState). in_checkpoint x true) idle.at.system;
+    vault = quiet_goes told may_leave faults s B p (flagged p) Starts v idle.at.vault (flag_rises s B p gs y v idle) refl (λ F. refl) refl;
+    none_in_hand = idle.at.none_in_hand;
+  }
+
   pub start_keeps : (s : Start) (B : List (List Record)) (p : Point) (gs : List RegionState) (y : SystemState) (v w : Vaulted V)
       → IsIdle told may_leave faults s B p gs y v → FlushesFrame told may_leave faults y v w
       → KeptAt s p gs (in_checkpoint (taken y) true) w
   start_keeps s B p gs y v w idle said = record {
     to = p3;
     batches = f.batches;
-    course = (p1, starts, course_join p1 f.to p3 (Does Takes ∷ Does Flushes ∷ []) (Keeps ∷ []) f.course (p3, keeps, refl));
+    course = (p1, flag_rises s B p gs y v idle, course_join p1 f.to p3 (Does Takes ∷ Does Flushes ∷ []) (Keeps ∷ []) f.course (p3, keeps, refl));
     at = record {
       regions = f.at.regions;
       system = f.at.system;
@@ -205,24 +221,13 @@ module _ {V : Type 0} (told : V → Option Disk) (may_leave : V → Disk → Typ
       y1 = in_checkpoint y true
 
       p1 : Point
-      p1 = record p { core = with_flag p.core true }
-
-      starts : IsPointStep p Starts p1
-      starts = (ap (λ (x : SystemState). x.checking) idle.at.system ∙ idle.flag, refl)
-
-      at1 : IsCoreAt told may_leave faults s B p1 gs y1 v
-      at1 = record {
-        regions = idle.at.regions;
-        system = ap (λ (x : SystemState). in_checkpoint x true) idle.at.system;
-        vault = quiet_goes told may_leave faults s B p p1 Starts v idle.at.vault starts refl (λ F. refl) refl;
-        none_in_hand = idle.at.none_in_hand;
-      }
+      p1 = flagged p
 
       frame : FlushesFrame told may_leave faults y1 v w
       frame = (said.0, record { body = said.1.body; records = said.1.records }, said.2)
 
       f : AllFlushed told may_leave faults s p1 gs v (taken y1) w
-      f = flushes_all told may_leave faults gs y1 (taken y1) v w (flush_ran y v w said) frame refl s B p1 at1
+      f = flushes_all told may_leave faults gs y1 (taken y1) v w (flush_ran y v w said) frame refl s B p1 (flagged_at s B p gs y v idle)
 
       stay : Stays p1 f.to
       stay = both_stay p1 f.to f.course
@@ -390,20 +395,17 @@ module _ {V : Type 0} (told : V → Option Disk) (may_leave : V → Disk → Typ
       r : ℕ
       r = c.copied
 
-      n : ℕ
-      n = length p.log
-
       side_is : side_in c ≡ target p
       side_is = side_is_next s B p gs y v c h k.at.vault.run k.is
 
-      done : Skipped told may_leave faults s B p r n v
-      done = skip_goes told may_leave faults s B p v r n g k.at.vault
+      done : Skipped told may_leave faults s B p r (length p.log) v
+      done = skip_goes told may_leave faults s B p v r (length p.log) g k.at.vault
           (record { at = ap (λ l. slice_get l r) k.at.regions ∙ at; under_way = ap is_some k.is.begun; clear = subst (λ side. is_dirty g side ≡ false) side_is clean; untouched = untouched_now p.log r })
 
       to : Point
       to = done.goes.to
 
-      same : to ≡ record p { copies = copies_with p.copies (target p) r (Some (copy_at n)) }
+      same : to ≡ record p { copies = copies_with p.copies (target p) r (Some (copy_at (length p.log))) }
       same = done.goes.step.5
 
       kept : IsKept p.log p.core.vault no_image h

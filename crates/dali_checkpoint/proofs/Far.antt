@@ -148,7 +148,7 @@ run_far {V = V} told may_leave faults s B p gs y v w c h g (g2 ∷ more) k next 
     let name : FileName = image_name (side_in c) in
     let both : HasWritten told may_leave faults v name (place_of c.copied) (us ++ bs) w =
     subst (λ l. HasWritten told may_leave faults v name (place_of c.copied) l w) (flat_map-cons (λ (x : RegionState). words_bytes x.back) g (g2 ∷ more)) said in
-    let back : length g.back ≡ 64 = ((runs_on_log s p k.at.vault.run).regions c.copied g (ap (λ (l : List RegionState). slice_get l c.copied) k.at.regions ∙ at)).protected.back_size in
+    let back : length g.back ≡ 64 = ((runs_on_log s p k.at.vault.run).regions c.copied g (ap (λ (l : List RegionState). slice_get l c.copied) k.at.regions ∙ at)).protected.back.0 in
     let size : length us ≡ 512 = words_are_8 g.back ∙ omega (arith, back) in
     let place : place_of c.copied + length us ≡ place_of (c.copied + 1) = omega (arith, size) in
     let told2 : Option V → Option Disk = mid_told told may_leave faults v w name (place_of c.copied) us bs both in

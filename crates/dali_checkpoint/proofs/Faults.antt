@@ -27,7 +27,7 @@ use Rattle.dali_checkpoint.specs.Running.{IsCopying}
 use Rattle.dali_checkpoint.specs.declared.error.CheckpointError.{CheckpointError}
 use Rattle.dali_checkpoint.specs.declared.error.CheckpointError.TheVariants.{Failed, InProgress, Stopped, LogFull, Fault, OutOfMemory}
 use Rattle.dali_checkpoint.specs.Laws.{lost_end, giving_up, Ends, EndsBy, StartFaults, CopyFaults, RunFaults, SettleFaults, CertifyFaults, FailureEnds, GivesUp}
-use Rattle.dali_checkpoint.proofs.Calls.{course_join, untouched_now, flush_ran, start_keeps, KeptAt, side_is_next, copying_flushed, CopyingFlushed, settled_flushed, SettledFlushed, certify_turn, CertifyTurn}
+use Rattle.dali_checkpoint.proofs.Calls.{flagged, course_join, untouched_now, flush_ran, flag_rises, flagged_at, start_keeps, KeptAt, side_is_next, copying_flushed, CopyingFlushed, settled_flushed, SettledFlushed, certify_turn, CertifyTurn}
 
 module _ {V : Type 0} (told : V → Option Disk) (may_leave : V → Disk → Type 0) (faults : V → ℕ) where
   -- ---- steps that needn't be named
@@ -129,28 +129,12 @@ module _ {V : Type 0} (told : V → Option Disk) (may_leave : V → Disk → Typ
   start_faults s B p gs y v w idle (inl said) = (
     head_now p.log p.core,
     subst (λ z. EndsBy told may_leave faults s p (Starts ∷ Does Takes ∷ Does (Faults (faults w.store)) ∷ Does Stops ∷ Finishes ∷ []) gs z w) (ap (in_checkpoint (store_stopped (taken y))) (sym idle.flag))
-        (finish s p (Starts ∷ Does Takes ∷ Does (Faults (faults w.store)) ∷ Does Stops ∷ []) gs (store_stopped (taken y1)) w refl
-        (behind s p p1 gs (store_stopped (taken y1)) w (Starts ∷ []) (Does Takes ∷ Does (Faults (faults w.store)) ∷ Does Stops ∷ []) (p1, starts, refl) (flush_fault s B p1 gs y1 v w at1 frame))),
+        (finish s p (Starts ∷ Does Takes ∷ Does (Faults (faults w.store)) ∷ Does Stops ∷ []) gs (store_stopped (taken (in_checkpoint y true))) w refl
+        (behind s p (flagged p) gs (store_stopped (taken (in_checkpoint y true))) w (Starts ∷ []) (Does Takes ∷ Does (Faults (faults w.store)) ∷ Does Stops ∷ []) (flagged p, flag_rises told may_leave faults s B p gs y v idle, refl)
+        (flush_fault s B (flagged p) gs (in_checkpoint y true) v w (flagged_at told may_leave faults s B p gs y v idle) frame))),
   )
     where
-      y1 : SystemState
-      y1 = in_checkpoint y true
-
-      p1 : Point
-      p1 = record p { core = with_flag p.core true }
-
-      starts : IsPointStep p Starts p1
-      starts = (ap (λ (x : SystemState). x.checking) idle.at.system ∙ idle.flag, refl)
-
-      at1 : IsCoreAt told may_leave faults s B p1 gs y1 v
-      at1 = record {
-        regions = idle.at.regions;
-        system = ap (λ (x : SystemState). in_checkpoint x true) idle.at.system;
-        vault = quiet_goes told may_leave faults s B p p1 Starts v idle.at.vault starts refl (λ F. refl) refl;
-        none_in_hand = idle.at.none_in_hand;
-      }
-
-      frame : FailsFrame told may_leave faults y1 v w
+      frame : FailsFrame told may_leave faults (in_checkpoint y true) v w
       frame = (said.0, record { body = said.1.body; records = said.1.records }, said.2)
   start_faults s B p gs y v w idle (inr said) = (
     h,

@@ -1,20 +1,18 @@
 -- No image file becomes shorter, so what it reaches it goes on to reach.
-use Rattle.std.proofs.Common.{◌≡◌, ℕ, ◌+◌, ◌-◌, ◌<◌, ◌≤◌, Bool, true, false, List, length, Option, Some, None, IfSome, refl, ap, sym, subst, ◌∙◌, ⊎_elim, arith, length-append, inl, inr}
-use Rattle.std.specs.Prelude.{◌⊎◌, is_some, ◌++◌, take, drop, slice_get, slice_set}
+use Rattle.std.proofs.Common.{◌≡◌, ℕ, ◌+◌, ◌-◌, ◌<◌, ◌≤◌, false, List, length, Option, Some, None, IfSome, refl, ap, sym, subst, ◌∙◌, ⊎_elim, arith, length-append, inl, inr}
+use Rattle.std.specs.Prelude.{◌⊎◌, ◌++◌, take, drop, slice_get, slice_set}
 use Rattle.std.proofs.lemmas.List.{length-take-le, length-drop}
 use Rattle.dali_lists.proofs.Lists.{set_cases, get_within}
 use Rattle.dali_region.specs.declared.Side.{Side}
 use Rattle.dali_region.specs.declared.Side.TheVariants.{A, B}
 use Rattle.dali_region.specs.State.{RegionState}
 use Rattle.dali_region.specs.Answers.{is_dirty, cleaned}
-use Rattle.dali_store.specs.declared.store.FileName.{FileName}
-use Rattle.dali_store.specs.declared.store.FileName.TheVariants.{Log, ImageA, ImageB, Anchor}
-use Rattle.dali_store.specs.Store.{Files as Disk, file_of, Holds, HoldsIn, TornIn, TornTold}
+use Rattle.dali_store.specs.Store.{Files as Disk, file_of, Holds, HoldsIn}
 use Rattle.dali_traces.specs.Disks.{image_file, image_name}
 use Rattle.dali_traces.specs.Places.{place_of}
 use Rattle.dali_vault.specs.Vaulted.{Vaulted}
 use Rattle.dali_whole.specs.Cores.{HoldsPlaces}
-pub use Rattle.dali_whole.proofs.Lengths.{no_shorter_tells, same_length, torn_length, then_length, unless_stopped, places_stay}
+pub use Rattle.dali_whole.proofs.Lengths.{no_shorter_tells, same_length, torn_length, then_length, torn_unless_stopped, places_stay}
 use Rattle.dali_checkpoint.specs.Done.{Reaches}
 use Rattle.dali_whole.specs.Cores.{NoShorter}
 use Rattle.dali_checkpoint.specs.Runs.{is_first_dirty, run_of, change}

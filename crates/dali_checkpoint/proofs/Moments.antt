@@ -10,6 +10,7 @@ use Rattle.dali_system.specs.Steps.{taken, in_checkpoint}
 use Rattle.dali_system.specs.Courses.{Takes, Flushes}
 use Rattle.dali_crash.specs.Checkpoints.{Does, Starts, Keeps, Syncs, Point, IsPointCourse, target, side_of}
 use Rattle.dali_crash.specs.Traces.{Start}
+use Rattle.dali_crash.proofs.Courses.{flush_logs_none}
 use Rattle.dali_traces.specs.Disks.{Spells, image_name}
 use Rattle.dali_traces.specs.Bridges.{LeavesRightAt}
 use Rattle.dali_traces.specs.Anchors.{MayHaveMoved}
@@ -34,9 +35,6 @@ there (Some d) X e x = x
 there None X e x = absurd (cc)
 
 -- ---- these steps log nothing
-both_log : (p q : Point) → IsPointCourse p (Does Takes ∷ Does Flushes ∷ []) q → q.log ≡ p.log
-both_log p q c = ap (λ (z : Point). z.log) (sym c.2.2) ∙ (c.2.1.1.0.1.0 ∙ c.1.1.0.0)
-
 kept_log : (p q : Point) → IsPointCourse p (Starts ∷ Does Takes ∷ Does Flushes ∷ Keeps ∷ []) q → q.log ≡ p.log
 kept_log p q c = ap (λ (z : Point). z.log) (sym c.2.2.2.2) ∙ (ap (λ (z : Point). z.log) c.2.2.2.1.4 ∙ (c.2.2.1.1.0.1.0 ∙ (c.2.1.1.0.0 ∙ ap (λ (z : Point). z.log) c.1.1)))
 
@@ -85,7 +83,7 @@ module _ {V : Type 0} (told : V → Option Disk) (may_leave : V → Disk → Typ
       let f : CopyingFlushed told may_leave faults s p gs (taken y) w.mid c h = copying_flushed told may_leave faults s B p gs y (taken y) v w.mid c h k w.flushed refl in
       let side = side_is_next told may_leave faults s f.batches f.to gs (taken y) w.mid c h f.is.at.vault.run f.is.is in
       let D = there (told w.mid.store) _ (w.flushed.2.ok.tells ∙ e) (write_is_right_in told may_leave faults s f.batches f.to w.mid at n f.is.at.vault w.flushed.2.ok.runs) d (subst (λ z. TornFrom (may_leave w.mid.store) (image_name z) at n d) side w.torn) in
-      (D.0, D.1, record { to = f.to; steps = Does Takes ∷ Does Flushes ∷ []; course = f.course; same = both_log p f.to f.course; regions = f.is.at.regions ∙ sym k.at.regions; right = D.2 }))
+      (D.0, D.1, record { to = f.to; steps = Does Takes ∷ Does Flushes ∷ []; course = f.course; same = flush_logs_none p f.to f.course; regions = f.is.at.regions ∙ sym k.at.regions; right = D.2 }))
       left)
 
   -- ---- the anchor
@@ -96,7 +94,7 @@ module _ {V : Type 0} (told : V → Option Disk) (may_leave : V → Disk → Typ
       (λ (w : SyncLeft told may_leave faults y v d).
       let f : SettledFlushed told may_leave faults s p gs (taken y) w.mid c h n = settled_flushed told may_leave faults s B p gs y (taken y) v w.mid c h n k w.flushed refl in
       let D = there (told w.mid.store) _ (w.flushed.2.ok.tells ∙ e) (crash_is_right told may_leave faults s f.batches f.to w.mid f.is.at.vault) d w.left in
-      (D.0, D.1, record { to = f.to; steps = Does Takes ∷ Does Flushes ∷ []; course = f.course; same = both_log p f.to f.course; regions = f.is.at.regions ∙ sym k.at.regions; right = D.2 }))
+      (D.0, D.1, record { to = f.to; steps = Does Takes ∷ Does Flushes ∷ []; course = f.course; same = flush_logs_none p f.to f.course; regions = f.is.at.regions ∙ sym k.at.regions; right = D.2 }))
       (λ (w : TurnLeft told may_leave faults y v (side_in c) d).
       let t : CertifyTurn told may_leave faults s p gs (taken y) w.late h b = certify_turn told may_leave faults s B p gs y v w.mid w.late c h n b k certified w.flushed w.synced in
       let D = there (told w.late.store) _ (w.synced.ok.tells ∙ (w.flushed.2.ok.tells ∙ e))

@@ -1,22 +1,16 @@
 -- The rows of the system's table are those that a checkpoint keeps.
-use Rattle.std.proofs.Common.{◌≡◌, ℕ, suc, ◌-◌, ◌<◌, Bool, true, false, List, [], ◌∷◌, length, Option, Some, None, map, refl, ap, sym, subst, ◌∙◌, ⊎_elim, arith}
-use Rattle.std.specs.Prelude.{◌==◌, ◌||◌, not, T, filter, take, is_some, Contains, slice_get}
+use Rattle.std.proofs.Common.{◌≡◌, ℕ, suc, ◌-◌, Bool, true, false, List, [], ◌∷◌, length, Option, Some, None, map, refl, ap, sym, subst, ◌∙◌, ⊎_elim, arith}
+use Rattle.std.specs.Prelude.{◌==◌, ◌||◌, not, filter, take, is_some, Contains, slice_get}
 use Rattle.std.specs.Option.{option_map, option_map_or}
-use Rattle.std.specs.List.{AllByRecursion, list_any}
 use Rattle.std.proofs.lemmas.Bool.{eq-eqb, eqb-true, or_cases, and_parts, and_from}
 use Rattle.std.proofs.lemmas.List.{take_all}
 use Rattle.std.proofs.lemmas.List.Kept.{IsStrictlyIncreasing-filter}
-use Rattle.std.proofs.Math.Path.{fun_ext}
 use Rattle.std.specs.FinMap as finite
-use Rattle.std.specs.FinMap.Entries.{is_sorted, below_all}
-use Rattle.std.specs.Ordering.{nat_cmp, eq_by_cmp}
-use Rattle.std.specs.Cmp.{nat_cmp_total, eq_by_cmp_equiv, unsigned_tied}
 use Rattle.dali_lists.proofs.Members.{contains_from_get}
-use Rattle.dali_lists.proofs.Numbers.{cmp_less}
-use Rattle.dali_lists.proofs.Tests.{T_left, T_right, same_tests}
+use Rattle.dali_lists.proofs.Tests.{same_tests}
 use Rattle.dali_att.specs.declared.state.State.{State}
 use Rattle.dali_att.specs.declared.state.State.TheVariants.{Live, Dead, Cleaning, Committed}
-use Rattle.dali_att.specs.Table.{Table, Row as Entry}
+use Rattle.dali_att.specs.Table.{Table}
 use Rattle.dali_record.specs.declared.operations.Pending.{Pending}
 use Rattle.dali_record.specs.declared.records.Record.{Record}
 use Rattle.dali_record.specs.Log.{begun, ended}
@@ -26,29 +20,15 @@ use Rattle.dali_record.specs.Files.{Row, row_of as file_row, table_before}
 use Rattle.dali_record.proofs.Batches.{number_is_length}
 use Rattle.dali_history.proofs.Members.{has-filter, has-filter_from}
 use Rattle.dali_history.proofs.Ascending.{begun_ascends}
+use Rattle.dali_history.proofs.Rising.{keys_up, has_keys}
 use Rattle.dali_system.specs.State.{TxnRow, CoreState}
 use Rattle.dali_system.specs.Run.{Bases, RunsOn, is_committed}
 use Rattle.dali_facts.proofs.Begun.{holds_the_begun}
 use Rattle.dali_during.specs.Reported.{kept_row}
 use Rattle.dali_during.proofs.Premises.{last_in}
-use Rattle.dali_during.proofs.Ascends.{Up, same_increasing}
+use Rattle.dali_during.proofs.Ascends.{same_increasing}
 use Rattle.dali_during.proofs.Reported.{table_is_kept}
 use Rattle.dali_image.specs.Rows.{rows_of, row_at, is_committed as is_kept_committed}
-
--- ---- the keys of a table rise
-
-keys_above : (x : ℕ) (es : List (ℕ × Entry Pending)) → T (below_all nat_cmp x es) → AllByRecursion (λ y. x < y) (map (λ e. e.0) es)
-keys_above x [] p = tt
-keys_above x (e ∷ es) p = (cmp_less x e.0 (nat_cmp x e.0) refl (T_left _ _ p), keys_above x es (T_right _ _ p))
-
-keys_up : (es : List (ℕ × Entry Pending)) → T (is_sorted nat_cmp es) → Up (map (λ e. e.0) es)
-keys_up [] p = tt
-keys_up (e ∷ es) p = (keys_above e.0 es (T_left _ _ p), keys_up es (T_right _ _ p))
-
-pub has_keys : (m : Table Pending) (t : ℕ) → has (finite.keys m) t ≡ is_some (finite.get m t)
-has_keys m t =
-    let tests : (λ (x : ℕ). x == t) ≡ eq_by_cmp nat_cmp t = fun_ext (λ x. sym ((eq_by_cmp_equiv nat_cmp_total).symm t x ∙ unsigned_tied x t)) in
-    ap (λ (p : ℕ → Bool). list_any p (finite.keys m)) tests ∙ sym (finite.contains_key-keys m t)
 
 -- ---- a row
 kept_state : (s : State) → is_kept_committed (Some s) ≡ is_committed s
@@ -110,7 +90,7 @@ rows_are bases L c run = ap (map (row_at c.system.table)) keys_are ∙ (map_same
 
     keys_are : finite.keys c.system.table ≡ running
     keys_are =
-        same_increasing (finite.keys c.system.table) running (keys_up (finite.entries c.system.table) (finite.entries_sorted c.system.table))
+        same_increasing (finite.keys c.system.table) running (keys_up c.system.table)
         (IsStrictlyIncreasing-filter (λ t. not (has (ended E) t)) (begun E) (begun_ascends c.system.sizes L (last_epoch L) run.log.legal.rules (last_in L)))
         (λ t. has_keys c.system.table t ∙ same_tests (is_some (finite.get c.system.table t)) (has running t) (is_in t) (has_row t))
 

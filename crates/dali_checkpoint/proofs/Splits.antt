@@ -1,42 +1,11 @@
 -- A write of bytes is a write of the first ones and then of the others.
-use Rattle.std.proofs.Common.{◌≡◌, ◌≢◌, ℕ, ◌+◌, ◌≤◌, ◌<◌, Bool, true, false, List, [], ◌++◌, length, take, drop, Option, Some, None, IfSome, refl, ap, sym, subst, ◌∙◌, arith, append_assoc, length-append}
+use Rattle.std.proofs.Common.{◌≡◌, ℕ, ◌+◌, ◌≤◌, ◌<◌, Bool, true, false, List, [], ◌++◌, length, take, drop, Option, Some, None, IfSome, refl, ap, sym, subst, ◌∙◌, arith, append_assoc, length-append}
 use Rattle.std.specs.Prelude.{min, nat_lt}
 use Rattle.std.proofs.lemmas.Bool.{ltb-true, ltb-false}
 use Rattle.std.proofs.lemmas.List.{take_at, drop_at, drop-drop, length-take, length-take-le, length-drop, append-nil, take-take, drop_all}
 use Rattle.dali_store.specs.declared.store.FileName.{FileName}
-use Rattle.dali_store.specs.declared.store.FileName.TheVariants.{Log, ImageA, ImageB, Anchor}
 use Rattle.dali_store.specs.Store.{Files as Disk, file_of, Holds, HoldsIn, Torn, TornIn}
-
--- ---- one file among four
-abbrev with_file : FileName → List ℕ → Disk → Disk
-with_file Log bytes c = record c { log = bytes }
-with_file ImageA bytes c = record c { a = bytes }
-with_file ImageB bytes c = record c { b = bytes }
-with_file Anchor bytes c = record c { anchor = bytes }
-
-file_with : (f : FileName) (bytes : List ℕ) (c : Disk) → file_of f (with_file f bytes c) ≡ bytes
-file_with Log bytes c = refl
-file_with ImageA bytes c = refl
-file_with ImageB bytes c = refl
-file_with Anchor bytes c = refl
-
-file_other : (g f : FileName) (bytes : List ℕ) (c : Disk) → g ≢ f → file_of g (with_file f bytes c) ≡ file_of g c
-file_other Log Log bytes c other = absurd (other refl)
-file_other Log ImageA bytes c other = refl
-file_other Log ImageB bytes c other = refl
-file_other Log Anchor bytes c other = refl
-file_other ImageA Log bytes c other = refl
-file_other ImageA ImageA bytes c other = absurd (other refl)
-file_other ImageA ImageB bytes c other = refl
-file_other ImageA Anchor bytes c other = refl
-file_other ImageB Log bytes c other = refl
-file_other ImageB ImageA bytes c other = refl
-file_other ImageB ImageB bytes c other = absurd (other refl)
-file_other ImageB Anchor bytes c other = refl
-file_other Anchor Log bytes c other = refl
-file_other Anchor ImageA bytes c other = refl
-file_other Anchor ImageB bytes c other = refl
-file_other Anchor Anchor bytes c other = absurd (other refl)
+use Rattle.dali_store.proofs.OneFile.{with_file, file_with, file_other}
 
 -- ---- bytes that were written
 abbrev first_held : ℕ → List ℕ → List ℕ → List ℕ

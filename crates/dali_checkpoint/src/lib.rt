@@ -10,4 +10,4 @@ mod parts;
 
 pub use checkpoint::Checkpoint;
 pub use error::CheckpointError;
-pub use making::make_checkpoint;
+pub use making::{make_checkpoint, pass_all};

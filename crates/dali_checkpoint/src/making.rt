@@ -50,8 +50,8 @@ fn copy_all<V: Store>(
     Ok(())
 }
 
-// Passes all regions.
-fn pass_all(audit: &mut Audit, regions: &mut [Region])
+/// Passes all regions, one after another.
+pub fn pass_all(audit: &mut Audit, regions: &mut [Region])
     requires all { audit.old.findings ≡ map (λ _. Waiting) regions.old }
     requires few { length regions.old < 2 ^ 32 }
     ensures found { audit.new ≡ record audit.old { findings = map found_in regions.old } }

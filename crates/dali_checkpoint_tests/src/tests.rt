@@ -15,7 +15,6 @@ use dali_checkpoint::{Checkpoint, CheckpointError, make_checkpoint};
 use dali_core::{System, SystemError};
 use dali_geometry::Geometry;
 use dali_memstore::{Fuse, MemoryStore};
-use dali_record::Regions;
 use dali_region::Region;
 use dali_store::{FileName, Store};
 use dali_system::Cause;
@@ -55,12 +54,10 @@ fn vault_of<V: Store + Drop>(store: V, first: &Frame) -> Option<Vault<V>>
 }
 
 // A store in memory that passes so many calls on once it is formatted.
-fn formatted(alloc: Global, passes: u64) -> Option<Vault<Fuse<MemoryStore>>>
-    requires few { passes < 1000 }
-{
+fn formatted(alloc: Global, passes: u64) -> Option<Vault<Fuse<MemoryStore>>> {
     let fuse = Fuse::new(
         MemoryStore::new(alloc, Vec::new(alloc)),
-        Some(BEFORE + passes),
+        Some(BEFORE.saturating_add(passes)),
     );
     let Ok(mut first) = Frame::new(alloc) else {
         return None;
@@ -74,7 +71,6 @@ fn formatted(alloc: Global, passes: u64) -> Option<Vault<Fuse<MemoryStore>>>
 // A database whose store passes so many calls on once it is formatted, with one transaction that has begun. Each word of the
 // index region is 1, and each of the heap region 2.
 fn begun(alloc: Global, passes: u64) -> Option<Small<Fuse<MemoryStore>>>
-    requires few { passes < 1000 }
     ensures two { IfSome result (λ s. regions_of s.system.state.sizes ≡ 2) }
     ensures uncopied { IfSome result (λ s. IsUncopied s.index × IsUncopied s.heap) }
     ensures fresh { IfSome result (λ s. IsFresh s.index × IsFresh s.heap) }
@@ -233,43 +229,10 @@ fn checkpoints(
     alloc: Global,
     passes: u64,
     count: u32,
-) -> Option<(Result<u64, CheckpointError>, (Option<Cause>, bool, u64))>
-    requires few { passes < 1000 }
-{
+) -> Option<(Result<u64, CheckpointError>, (Option<Cause>, bool, u64))> {
     let mut small = begun(alloc, passes)?;
     let last = repeated(alloc, count, &mut small)?;
     Some((last, seen(&small)))
-}
-
-// A start flushes the begin by four calls, and writes the header by one. Two regions and the table are written by one each. A
-// certification flushes the audit's records by four, syncs by one, and moves the anchor by four.
-#[test]
-fn each_failing_call_stops_the_engine(rt: HostRuntime) -> Result<(), Fail> {
-    let alloc = rt.alloc();
-    for passes in 0..17 {
-        assert_eq!(rt;
-            checkpoints(alloc, passes, 1),
-            Some((Err(CheckpointError::Fault), (Some(Cause::Store), true, 0)))
-        );
-    }
-    assert_eq!(rt; checkpoints(alloc, 17, 1), Some((Ok(1), (None, false, 1))));
-    Ok(())
-}
-
-// The second one flushes nothing at its start, and writes both regions to the other image; the third one writes none: 17, 13
-// and 11 calls.
-#[test]
-fn a_clean_region_costs_no_call(rt: HostRuntime) -> Result<(), Fail> {
-    let alloc = rt.alloc();
-    let fault = Err(CheckpointError::Fault);
-    for (passes, count, answer, left) in [
-        (29, 2, fault, (Some(Cause::Store), true, 1)),
-        (30, 2, Ok(2), (None, false, 2)),
-        (41, 3, Ok(3), (None, false, 3)),
-    ] {
-        assert_eq!(rt; checkpoints(alloc, passes, count), Some((answer, left)));
-    }
-    Ok(())
 }
 
 // The header of an image of two regions: checkpoint 1 at place 29, behind 2 records of 19 bytes; the next transaction is 2, and
@@ -348,13 +311,24 @@ fn one_checkpoint_goes_on_at_a_time(rt: HostRuntime) -> Result<(), Fail> {
     Ok(())
 }
 
-// A checkpoint of a region with a stray write, what is left of it, and what a start answers then.
+// The region that a failed checkpoint names, if it names one alone.
+fn named(answer: Result<u64, CheckpointError>) -> Option<u32> {
+    match answer {
+        Err(CheckpointError::Failed { regions }) => match regions.as_slice() {
+            [region] => Some(*region),
+            _ => None,
+        },
+        _ => None,
+    }
+}
+
+// The region with a stray write that a checkpoint names, what is left of it, and what a start answers then.
 #[tactic(auto, using(crate::proofs::Places::uncopied_places))]
 fn damaged(
     alloc: Global,
 ) -> Option<
     (
-        Result<u64, CheckpointError>,
+        Option<u32>,
         (Option<Cause>, bool, u64),
         Option<CheckpointError>,
     ),
@@ -364,23 +338,7 @@ fn damaged(
     let failed = checkpoint(alloc, &mut small)?;
     let left = seen(&small);
     let next = start(alloc, &mut small)?.err();
-    Some((failed, left, next))
-}
-
-#[test]
-fn an_audit_that_fails_leaves_the_anchor(rt: HostRuntime) -> Result<(), Fail> {
-    let alloc = rt.alloc();
-    let cause = Cause::Damage { region: 1 };
-    let regions = Regions::new(Vec::from_slice(alloc, &[1])?);
-    assert_eq!(rt;
-        damaged(alloc),
-        Some((
-            Err(CheckpointError::Failed { regions }),
-            (Some(cause), false, 0),
-            Some(CheckpointError::Stopped { cause })
-        ))
-    );
-    Ok(())
+    Some((named(failed), left, next))
 }
 
 // ---- whole checkpoints, by one call
@@ -442,9 +400,7 @@ fn made(
     passes: u64,
     count: u32,
     stray: bool,
-) -> Option<(Result<u64, CheckpointError>, (Option<Cause>, bool, u64))>
-    requires few { passes < 1000 }
-{
+) -> Option<(Result<u64, CheckpointError>, (Option<Cause>, bool, u64))> {
     let mut small = begun(alloc, passes)?;
     if stray {
         small.heap.poke(5, 1 << 40);
@@ -459,38 +415,90 @@ fn made(
     Some((last, left))
 }
 
-#[test]
-fn a_whole_checkpoint_stops_at_each_failing_call(rt: HostRuntime) -> Result<(), Fail> {
-    let alloc = rt.alloc();
-    let fault = Err(CheckpointError::Fault);
-    for passes in 0..16 {
-        assert_eq!(rt;
-            made(alloc, passes, 1, false),
-            Some((Err(CheckpointError::Fault), (Some(Cause::Store), true, 0)))
-        );
-    }
-    for (passes, count, answer, left) in [
-        (16, 1, Ok(1), (None, false, 1)),
-        (27, 2, fault, (Some(Cause::Store), true, 1)),
-        (28, 2, Ok(2), (None, false, 2)),
-        (39, 3, Ok(3), (None, false, 3)),
-    ] {
-        assert_eq!(rt; made(alloc, passes, count, false), Some((answer, left)));
-    }
-    Ok(())
+// The region that a checkpoint by one call names, and what is left of it.
+fn damaged_whole(alloc: Global) -> Option<(Option<u32>, (Option<Cause>, bool, u64))> {
+    let (failed, left) = made(alloc, 100, 1, true)?;
+    Some((named(failed), left))
 }
 
 #[test]
-fn a_whole_checkpoint_of_a_stray_write_fails(rt: HostRuntime) -> Result<(), Fail> {
+fn an_audit_that_fails_leaves_the_anchor(rt: HostRuntime) -> Result<(), Fail> {
     let alloc = rt.alloc();
-    let regions = Regions::new(Vec::from_slice(alloc, &[1])?);
+    let cause = Cause::Damage { region: 1 };
     assert_eq!(rt;
-        made(alloc, 100, 1, true),
-        Some((
-            Err(CheckpointError::Failed { regions }),
-            (Some(Cause::Damage { region: 1 }), false, 0)
-        ))
+        (damaged(alloc), damaged_whole(alloc)),
+        (
+            Some((
+                Some(1),
+                (Some(cause), false, 0),
+                Some(CheckpointError::Stopped { cause })
+            )),
+            Some((Some(1), (Some(cause), false, 0)))
+        )
     );
+    Ok(())
+}
+
+// ---- both kinds
+
+// The answer of the last of so many checkpoints, each by one call or by its calls, where so many calls of the store pass, and
+// what is left.
+fn either(
+    alloc: Global,
+    whole: bool,
+    passes: u64,
+    count: u32,
+) -> Option<(Result<u64, CheckpointError>, (Option<Cause>, bool, u64))> {
+    if whole {
+        made(alloc, passes, count, false)
+    } else {
+        checkpoints(alloc, passes, count)
+    }
+}
+
+// How many calls of the store a checkpoint makes, if each that fails is a fault, stops engine and vault, and leaves no image.
+fn calls_of(alloc: Global, whole: bool) -> Option<u64> {
+    for passes in 0..100 {
+        let answered = either(alloc, whole, passes, 1)?;
+        if answered == (Ok(1), (None, false, 1)) {
+            return Some(passes);
+        }
+        if answered != (Err(CheckpointError::Fault), (Some(Cause::Store), true, 0)) {
+            return None;
+        }
+    }
+    None
+}
+
+// A start flushes the begin by four calls, and writes the header by one. Two regions and the table are written by one each; by
+// one call, both regions are written by one. A certification flushes the audit's records by four, syncs by one, and moves the
+// anchor by four.
+#[test]
+fn each_failing_call_stops_the_engine(rt: HostRuntime) -> Result<(), Fail> {
+    let alloc = rt.alloc();
+    assert_eq!(rt;
+        (calls_of(alloc, false), calls_of(alloc, true)),
+        (Some(17), Some(16))
+    );
+    Ok(())
+}
+
+// The second one flushes nothing at its start, and writes both regions to the other image; the third one writes none: 17, 13
+// and 11 calls; by one call 16, 12 and 11.
+#[test]
+fn a_clean_region_costs_no_call(rt: HostRuntime) -> Result<(), Fail> {
+    let alloc = rt.alloc();
+    let stopped = (Some(Cause::Store), true, 1);
+    for (whole, passes, count, answer, left) in [
+        (false, 29, 2, Err(CheckpointError::Fault), stopped),
+        (false, 30, 2, Ok(2), (None, false, 2)),
+        (false, 41, 3, Ok(3), (None, false, 3)),
+        (true, 27, 2, Err(CheckpointError::Fault), stopped),
+        (true, 28, 2, Ok(2), (None, false, 2)),
+        (true, 39, 3, Ok(3), (None, false, 3)),
+    ] {
+        assert_eq!(rt; either(alloc, whole, passes, count), Some((answer, left)));
+    }
     Ok(())
 }
 

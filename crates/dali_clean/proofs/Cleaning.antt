@@ -16,6 +16,7 @@ use Rattle.dali_record.specs.declared.records.Record.TheVariants.{Back, Ended}
 use Rattle.dali_record.specs.Operations.{undo_op}
 use Rattle.dali_record.specs.Log.{last_of, drop_last}
 use Rattle.dali_record.specs.Spelling.{Is64}
+use Rattle.dali_record.proofs.EpochRules.{kind_in}
 use Rattle.dali_region.specs.declared.Hold.{Hold}
 use Rattle.dali_region.specs.Answers.{latch_answer}
 use Rattle.dali_region.specs.State.{RegionState, touched, taken_back}
@@ -39,14 +40,18 @@ use Rattle.dali_core.specs.declared.want.Want.TheVariants.{Region}
 use Rattle.dali_core.specs.TakenBack.{next_undo, want_of, IsMadeOf, IsUndoBlock}
 use Rattle.dali_core.specs.Served.{Served}
 use Rattle.dali_facts.proofs.Ends.{empty_end_is_step}
-use Rattle.dali_calls.proofs.TakingBack.{taking_back_is_step}
+use Rattle.dali_calls.specs.Operating.{Goes, Undone, IsTakenBack}
+use Rattle.dali_calls.specs.TakingBack.{is_claimed}
+use Rattle.dali_calls.proofs.TakingBack.{taking_back_is_step, claimed_by, latched_of}
 use Rattle.dali_calls.proofs.Following.{last_all}
-use Rattle.dali_clean.specs.Undone.{Goes, Undone, IsTakenBack, IsReclaimed, Released}
-use Rattle.dali_clean.specs.Cleaned.{core, moment, AreDead, AreQuiet, MayClean, WholeMayClean, InRun, LeadsBy, LeadsOn, is_claimed, IsCleaning, IsLeftAt, IsRecovered, Claims, IsUndone, Ends, GivesBack}
+use Rattle.dali_calls.proofs.Operating.{steps_on, held_of}
+use Rattle.dali_calls.proofs.Rows.{undos_in, row_here, row_apart}
+use Rattle.dali_calls.proofs.Undoing.{next_last, drop_one, wanted_undo}
+use Rattle.dali_clean.specs.Undone.{IsReclaimed, Released}
+use Rattle.dali_clean.specs.Cleaned.{core, moment, AreDead, AreQuiet, MayClean, WholeMayClean, InRun, LeadsBy, LeadsOn, IsCleaning, IsLeftAt, IsRecovered, Claims, IsUndone, Ends, GivesBack}
 use Rattle.dali_clean.specs.Steps.{IsClaim}
 use Rattle.dali_clean.proofs.Steps.{join_back, region_back, leads_further, stays, Cleaned, cleaned_by, end_is_apart, gift_is_apart}
-use Rattle.dali_clean.proofs.Courses.{locked_keys, one, in_run_on, steps_on, on_region, runs_of, undos_in, work_of, row_here, row_there, held_of, kind_in}
-use Rattle.dali_clean.proofs.Backward.{next_last, fewer, wanted_undo}
+use Rattle.dali_clean.proofs.Courses.{locked_keys, one, in_run_on, on_region, runs_of, work_of}
 
 -- ---- options
 pub if_some_by : {A : Type 0} (o : Option A) (P : A → Type 0) → ((x : A) → o ≡ Some x → P x) → IfSome o P
@@ -81,7 +86,7 @@ module _ (y : SystemState) (u t : ℕ) (st : State) where
       by_test true e =
           let same : u ≡ t = (Decides-eqb u t).0 e in
           subst (λ (n : ℕ). P (get (with_row y.table n (with_state st)) t)) (sym same) (subst P (sym (row_here y.table t (with_state st))) (own same))
-      by_test false e = subst P (sym (row_there y.table u t (with_state st) e)) (other e)
+      by_test false e = subst P (sym (row_apart y.table u t (with_state st) e)) (other e)
 
   undos_put : undos_at (in_state y u st).table t ≡ undos_at y.table t
   undos_put = by_row (λ row. undos_in row ≡ undos_in (get y.table t)) (λ same. undos_mapped st (get y.table t)) (λ apart. refl)
@@ -93,17 +98,7 @@ state_put : (y : SystemState) (t : ℕ) (st old : State) → state_of y t ≡ So
 state_put y t st old e = ap state_in (row_here y.table t (with_state st)) ∙ state_mapped st (get y.table t) old e
 
 state_apart : (y : SystemState) (u t : ℕ) (st : State) → (u == t) ≡ false → state_of (in_state y u st) t ≡ state_of y t
-state_apart y u t st apart = ap state_in (row_there y.table u t (with_state st) apart)
-
-claimed_by : (o : Option State) (latched : Option ℕ) → o ≡ Some (Cleaning latched) → IsSomeAnd o is_claimed
-claimed_by o latched e = subst (λ z. IsSomeAnd z is_claimed) (sym e) tt
-
-latched_of : (o : Option State) → IsSomeAnd o is_claimed → (latched : Option ℕ) × (o ≡ Some (Cleaning latched))
-latched_of None h = absurd h
-latched_of (Some Live) h = absurd h
-latched_of (Some (Dead latched)) h = absurd h
-latched_of (Some (Cleaning latched)) h = (latched, refl)
-latched_of (Some Committed) h = absurd h
+state_apart y u t st apart = ap state_in (row_apart y.table u t (with_state st) apart)
 
 claimed_lives : (o : Option State) → IsSomeAnd o is_claimed → is_alive o ≡ true
 claimed_lives o h = ap is_alive (latched_of o h).1
@@ -435,7 +430,7 @@ pub undone_fewer : (y z : SystemState) (t r : ℕ) (p q : TakeBack) (g h : Regio
 undone_fewer y z t r p q g h txn next want o =
     let u = wanted_undo p.next r want in
     let is = ap (λ (x : SystemState). length (undos_at x.table t)) (o.system ∙ ap (λ (n : ℕ). back_logged y n o.block) txn) in
-    let less = fewer (undos_at y.table t) u.0 (next_last (undos_at y.table t) u.0 (sym next ∙ u.1)) in
+    let less = drop_one (undos_at y.table t) u.0 (next_last (undos_at y.table t) u.0 (sym next ∙ u.1)) in
     omega (arith, is, ap length (undos_popped y t o.block), less)
 
 pub undone_next : (z : SystemState) (t : ℕ) (p q : TakeBack) (g h : RegionState) (y : SystemState) → p.txn ≡ t → p.down_to ≡ 0 → Undone p g y q h z → q.next ≡ next_undo (undos_at z.table t) 0
@@ -543,3 +538,11 @@ claimed_may_die o h = subst (λ x. IsSomeAnd x (λ s. moves_to s (Dead None) ≡
 
 pub turned_as : (rs0 : List RegionState) (y0 : SystemState) (t : ℕ) (rs : List RegionState) (s z : Served) → z ≡ s → Turned rs0 y0 t rs s.state → Turned rs0 y0 t rs z.state
 turned_as rs0 y0 t rs s z e turn = subst (λ (x : Served). Turned rs0 y0 t rs x.state) (sym e) turn
+
+-- what was freed and then refused, whatever the system is called
+pub refused_as :
+    (rs0 rs : List RegionState) (y0 y : SystemState) (s z : Served) (t r : ℕ) (p : TakeBack) (g1 h1 g2 h2 : RegionState) → LeadsOn rs0 y0 t rs y → IsCleaning rs y t → y.stop ≡ y0.stop → p.txn ≡ t
+    → p.next ≡ next_undo (undos_at y.table t) 0 → Region r ≡ want_of p.next → slice_get rs r ≡ Some g1 → Released g1 y h1 s.state → slice_get (slice_set rs r h1) r ≡ Some g2
+    → z ≡ s → IsTakenBack p.txn g2 h2 → Turned rs0 y0 t (slice_set (slice_set rs r h1) r h2) z.state
+refused_as rs0 rs y0 y s z t r p g1 h1 g2 h2 goes is stop txn next want at freeing at2 same back =
+    turned_as rs0 y0 t (slice_set (slice_set rs r h1) r h2) s z same (refused_turn rs0 rs y0 y s.state t r p g1 h1 g2 h2 goes is stop txn next want at freeing at2 back)

@@ -1,18 +1,16 @@
 -- What a clean-up asks of regions and system, over an index region and a heap region that nobody has latched, or dead clients; for the tests.
 use Rattle.std.proofs.Common.{◌≡◌, ℕ, true, false, zero, suc, [], ◌∷◌, Option, Some, None, refl, sym, ap, subst, ◌∙◌, slice_get}
-use Rattle.std.specs.Prelude.{◌==◌, IfSome, IsSomeAnd}
+use Rattle.std.specs.Prelude.{◌==◌, IfSome}
 use Rattle.std.specs.List.{list_all}
 use Rattle.std.proofs.lemmas.Bool.Decides.{Decides-eqb}
 use Rattle.std.proofs.lemmas.Option.{same_Some}
-use Rattle.dali_record.specs.declared.operations.Block.{Block}
 use Rattle.dali_geometry.specs.Places.{regions}
 use Rattle.dali_region.specs.declared.Hold.{Hold}
-use Rattle.dali_region.specs.State.{RegionState, IsLive}
+use Rattle.dali_region.specs.State.{RegionState}
 use Rattle.dali_att.specs.declared.state.State.TheVariants.{Dead}
 use Rattle.dali_att.specs.Table.{undos_at}
 use Rattle.dali_system.specs.State.{SystemState, row_of, state_of, hold_in}
 use Rattle.dali_system.specs.Wholes.{is_of_kind, latched_in}
-use Rattle.dali_core.specs.UnderWay.{IsUnderWay}
 use Rattle.dali_clean.specs.Cleaned.{MayClean}
 use Rattle.dali_clean.proofs.Fitting.{kind_of}
 
@@ -43,9 +41,6 @@ may_clean i h y t first second two none kind = record {
 }
 
 -- ---- where a transaction died with region 0 latched, and another one with region 1
-pub is_live : (txn : ℕ) (b : Block) (left taken : ℕ) (g : RegionState) → IsUnderWay txn b left taken g → IsLive g
-is_live txn b left taken g way = subst (λ (o : Option Hold). IsSomeAnd o (λ h. h.dead ≡ false)) (sym way.hold) refl
-
 if_dead : (o : Option Hold) (a : Hold) → o ≡ Some a → a.dead ≡ true → IfSome o (λ h. h.dead ≡ true)
 if_dead o a e dead = subst (λ (p : Option Hold). IfSome p (λ h. h.dead ≡ true)) (sym e) dead
 

@@ -1,6 +1,4 @@
 pub mod Lists
-pub mod Writing
-pub mod Backward
 pub mod Courses
 pub mod Steps
 pub mod Cleaning

@@ -1,10 +1,10 @@
 -- What each part of a clean-up leaves to the other transactions.
-use Rattle.std.proofs.Common.{inl, inr, ◌≡◌, ◌≢◌, ℕ, Bool, true, false, List, Option, Some, None, refl, sym, ap, subst, ◌∙◌, slice_get, slice_set, option_map}
+use Rattle.std.proofs.Common.{inl, inr, ◌≡◌, ℕ, Bool, true, false, List, Option, Some, None, refl, sym, ap, subst, ◌∙◌, slice_get, slice_set, option_map}
 use Rattle.std.specs.Prelude.{◌==◌, if◌then◌else◌}
-use Rattle.std.specs.FinMap.{get, remove}
+use Rattle.std.specs.FinMap.{get}
 use Rattle.std.proofs.lemmas.Bool.Decides.{Decides-eqb}
 use Rattle.std.proofs.lemmas.Option.{none-some}
-use Rattle.dali_lists.proofs.Lists.{set_same, get_set, get_set_other}
+use Rattle.dali_lists.proofs.Lists.{set_same, get_set}
 use Rattle.dali_region.specs.declared.Hold.{Hold}
 use Rattle.dali_region.specs.State.{RegionState, taken_back}
 use Rattle.dali_att.specs.declared.state.State.{State}
@@ -16,19 +16,15 @@ use Rattle.dali_system.specs.State.{TxnRow, SystemState, row_of, state_in, hold_
 use Rattle.dali_system.specs.Steps.{in_state, back_logged, ended_logged}
 use Rattle.dali_core.specs.declared.take_back.TakeBack.{TakeBack}
 use Rattle.dali_core.specs.Served.{Served}
-use Rattle.dali_core.specs.Promised.{Promised, promised_to}
-use Rattle.dali_core.proofs.Totals.{others_stay}
-use Rattle.dali_clean.specs.Undone.{Undone, IsTakenBack, IsReclaimed, Released}
+use Rattle.dali_calls.specs.Operating.{Undone, IsTakenBack}
+use Rattle.dali_calls.specs.Others.{HoldStays}
+use Rattle.dali_calls.proofs.Rows.{row_here, row_apart}
+use Rattle.dali_calls.proofs.Others.{holds_put, holds_further}
+use Rattle.dali_clean.specs.Undone.{IsReclaimed, Released}
 use Rattle.dali_clean.specs.Cleaned.{IsRecovered}
-use Rattle.dali_clean.specs.Others.{IsFreed, RowStays, HoldStays, OthersStay, PromisesStay, IsGone, HasKept}
-use Rattle.dali_clean.proofs.Courses.{row_here, row_there}
+use Rattle.dali_clean.specs.Others.{IsFreed, RowStays, OthersStay, HasKept}
 
 -- ---- one part behind another
-hold_further : (rs rs' rs'' : List RegionState) (r : ℕ) → HoldStays rs rs' r → HoldStays rs' rs'' r → HoldStays rs rs'' r
-hold_further rs rs' rs'' r first (inr none) = inr none
-hold_further rs rs' rs'' r (inl same) (inl second) = inl (second ∙ same)
-hold_further rs rs' rs'' r (inr none) (inl second) = inr (second ∙ none)
-
 held_before : (rs rs' : List RegionState) (r : ℕ) (h : Hold) → HoldStays rs rs' r → hold_in (slice_get rs' r) ≡ Some h → hold_in (slice_get rs r) ≡ Some h
 held_before rs rs' r h (inl same) held = sym same ∙ held
 held_before rs rs' r h (inr none) held = absurd (none-some h (sym none ∙ held))
@@ -65,7 +61,7 @@ pub others_further : (rs rs' rs'' : List RegionState) (y m z : SystemState) (t :
 others_further rs rs' rs'' y m z t first second = record {
   rows = λ u e. row_further rs rs' rs'' y m z u first.holds second.holds (first.rows u e) (second.rows u e);
   locks = λ u k e. second.locks u k e ∙ first.locks u k e;
-  holds = λ r. hold_further rs rs' rs'' r (first.holds r) (second.holds r);
+  holds = holds_further rs rs' rs'' first.holds second.holds;
 }
 
 pub others_same : (rs rs' : List RegionState) (y z : SystemState) (t : ℕ) → rs' ≡ rs → z ≡ y → OthersStay rs y t rs' z
@@ -75,30 +71,17 @@ others_same rs rs' y z t gs is = subst (λ (x : SystemState). OthersStay rs y t 
   holds = λ r. inl refl;
 }))
 
--- ---- regions
-hold_put : (rs : List RegionState) (q : ℕ) (g h : RegionState) → slice_get rs q ≡ Some g → h.hold ≡ None → (r : ℕ) → HoldStays rs (slice_set rs q h) r
-hold_put rs q g h at none r = by_place (q == r) refl
-  where
-    apart : (q == r) ≡ false → q ≢ r
-    apart n e = let is : (q == r) ≡ true = (Decides-eqb q r).1 e in cc
-
-    by_place : (b : Bool) → (q == r) ≡ b → HoldStays rs (slice_set rs q h) r
-    by_place true e =
-        let same : q ≡ r = (Decides-eqb q r).0 e in
-        inr (subst (λ (n : ℕ). hold_in (slice_get (slice_set rs q h) n) ≡ None) same (ap hold_in (get_set rs q g h at) ∙ none))
-    by_place false e = inl (ap hold_in (get_set_other rs q h r (apart e)))
-
 -- ---- the claim, the claim given back, and a region that is freed
 in_state_others : (rs rs' : List RegionState) (y z : SystemState) (t : ℕ) (st : State) → z ≡ in_state y t st → ((r : ℕ) → HoldStays rs rs' r) → OthersStay rs y t rs' z
 in_state_others rs rs' y z t st is holds = subst (λ (x : SystemState). OthersStay rs y t rs' x) (sym is) (record {
-  rows = λ u e. inl (row_there y.table t u (with_state st) e);
+  rows = λ u e. inl (row_apart y.table t u (with_state st) e);
   locks = λ u k e. refl;
   holds = holds;
 })
 
 recovered : (rs rs' : List RegionState) (latched : Option ℕ) → IsRecovered rs latched rs' → (r : ℕ) → HoldStays rs rs' r
 recovered rs rs' None same r = inl (ap (λ (gs : List RegionState). hold_in (slice_get gs r)) same)
-recovered rs rs' (Some q) back r = subst (λ (gs : List RegionState). HoldStays rs gs r) (sym back.2) (hold_put rs q back.0 (taken_back back.0) back.1 refl r)
+recovered rs rs' (Some q) back r = subst (λ (gs : List RegionState). HoldStays rs gs r) (sym back.2) (holds_put rs q back.0 (taken_back back.0) back.1 refl r)
 
 pub claim_others : (rs rs' : List RegionState) (y z : SystemState) (t : ℕ) (latched : Option ℕ) → z ≡ in_state y t (Cleaning latched) → IsRecovered rs latched rs' → OthersStay rs y t rs' z
 claim_others rs rs' y z t latched is back = in_state_others rs rs' y z t (Cleaning latched) is (recovered rs rs' latched back)
@@ -117,7 +100,7 @@ release_others rs y z t r g h at (inr some) = subst (λ (k : RegionState). Other
     gs = slice_set rs r (taken_back g)
 
     holds : (q : ℕ) → HoldStays rs gs q
-    holds = hold_put rs r g (taken_back g) at refl
+    holds = holds_put rs r g (taken_back g) at refl
 
     freed : IsFreed rs v gs
     freed = (r, some.0, ap hold_in at ∙ some.1, refl, ap hold_in (get_set rs r g (taken_back g) at))
@@ -137,21 +120,21 @@ release_others rs y z t r g h at (inr some) = subst (λ (k : RegionState). Other
 
         by_row : (u : ℕ) (b : Bool) → (v == u) ≡ b → RowStays rs y u gs y2
         by_row u true e = let same : v ≡ u = (Decides-eqb v u).0 e in subst (λ (n : ℕ). RowStays rs y n gs y2) same (inr ((was.0, was.1), freed, own))
-        by_row u false e = inl (row_there y1.table v u (with_state (Dead None)) e ∙ row_there y.table v u (with_state (Cleaning was.0)) e)
+        by_row u false e = inl (row_apart y1.table v u (with_state (Dead None)) e ∙ row_apart y.table v u (with_state (Cleaning was.0)) e)
 
 -- ---- an undo, and the end
 pub undone_others : (rs : List RegionState) (y z : SystemState) (t r : ℕ) (p q : TakeBack) (g h : RegionState) → slice_get rs r ≡ Some g → p.txn ≡ t → Undone p g y q h z → OthersStay rs y t (slice_set rs r h) z
 undone_others rs y z t r p q g h at txn o = subst (λ (x : SystemState). OthersStay rs y t (slice_set rs r h) x) (sym (o.system ∙ ap (λ (n : ℕ). back_logged y n o.block) txn)) (record {
-  rows = λ u e. inl (row_there y.table t u without_last e);
+  rows = λ u e. inl (row_apart y.table t u without_last e);
   locks = λ u k e. refl;
-  holds = hold_put rs r g h at (ap (λ (k : RegionState). k.hold) o.region);
+  holds = holds_put rs r g h at (ap (λ (k : RegionState). k.hold) o.region);
 })
 
 pub refused_others : (rs : List RegionState) (s z : Served) (t v r : ℕ) (g h : RegionState) → slice_get rs r ≡ Some g → z ≡ s → IsTakenBack v g h → OthersStay rs s.state t (slice_set rs r h) z.state
 refused_others rs s z t v r g h at is back = subst (λ (x : Served). OthersStay rs s.state t (slice_set rs r h) x.state) (sym is) (record {
   rows = λ u e. inl refl;
   locks = λ u k e. refl;
-  holds = hold_put rs r g h at back.2;
+  holds = holds_put rs r g h at back.2;
 })
 
 pub ended_others : (rs : List RegionState) (y z : SystemState) (t : ℕ) → z ≡ ended_logged y t → OthersStay rs y t rs z
@@ -160,15 +143,6 @@ ended_others rs y z t is = subst (λ (x : SystemState). OthersStay rs y t rs x) 
   locks = λ u k e. locks_without_at y.locks t u k ∙ ap (λ (b : Bool). if b then None else get y.locks (u, k)) e;
   holds = λ r. inl refl;
 })
-
-pub ended_gone : (y z : SystemState) (t : ℕ) → z ≡ ended_logged y t → IsGone z t
-ended_gone y z t is = subst (λ (x : SystemState). IsGone x t) (sym is) (
-  get-ended y.table t t ∙ ap (λ (b : Bool). if b then None else get y.table t) self,
-  λ k. locks_without_at y.locks t t k ∙ ap (λ (b : Bool). if b then None else get y.locks (t, k)) self,
-)
-  where
-    self : (t == t) ≡ true
-    self = (Decides-eqb t t).1 refl
 
 -- ---- what is kept
 pub kept_further : (s m z : Served) → HasKept s m → HasKept m z → HasKept s z
@@ -190,12 +164,3 @@ released_locks g h y z (inr some) = by_claim some.3
 
 pub undone_locks : (p q : TakeBack) (g h : RegionState) (y z : SystemState) → Undone p g y q h z → z.locks ≡ y.locks
 undone_locks p q g h y z o = ap (λ (x : SystemState). x.locks) o.system
-
-pub promises_same : (s z : Served) (t : ℕ) → z.promised ≡ s.promised → PromisesStay s t z
-promises_same s z t e u apart = ap (λ (m : Promised). promised_to m u) e
-
-pub promises_ended : (s z : Served) (t : ℕ) → z.promised ≡ remove s.promised t → PromisesStay s t z
-promises_ended s z t e u apart = ap (λ (m : Promised). promised_to m u) e ∙ (others_stay s.promised t u 0 apart).2
-
-pub promises_further : (s m z : Served) (t : ℕ) → PromisesStay s t m → PromisesStay m t z → PromisesStay s t z
-promises_further s m z t first second u apart = second u apart ∙ first u apart

@@ -15,11 +15,14 @@ use Rattle.dali_system.specs.Passes.{Audits}
 use Rattle.dali_system.specs.Regions.{RegionStep, Latch, NoteReads, Update, TakeBack, Poke, Check, Die, Clean, region_after, is_alive}
 use Rattle.dali_system.specs.Courses.{Step, TakesBack, Ends, OnRegion, Claims, GivesBack, Recovers, Moment, IsStepAt, IsStep, IsCourse}
 use Rattle.dali_system.proofs.Touching.{join}
-use Rattle.dali_clean.specs.Steps.{is_own_change, AreBack, recovers, IsClaim, IsCleanUp, is_own_step, OwnSteps, is_apart_on, is_apart, AreBeside}
-use Rattle.dali_clean.specs.Undone.{IsOwn, Goes}
+use Rattle.dali_calls.specs.Others.{is_apart_on, is_apart}
+use Rattle.dali_calls.specs.Operating.{IsOwn, Goes}
+use Rattle.dali_calls.proofs.Rows.{row_apart}
+use Rattle.dali_calls.proofs.Operating.{steps_on}
+use Rattle.dali_clean.specs.Steps.{is_own_change, AreBack, recovers, IsClaim, IsCleanUp, is_own_step, OwnSteps, AreBeside}
 use Rattle.dali_clean.specs.Cleaned.{moment, InRun, Led, LeadsBy, LeadsOn}
 use Rattle.dali_clean.proofs.Lists.{append_twice}
-use Rattle.dali_clean.proofs.Courses.{row_there, one, in_run_on, steps_on}
+use Rattle.dali_clean.proofs.Courses.{one, in_run_on}
 
 -- ---- one taking back behind another
 pub join_back : (t : ℕ) (xs ys : List Step) → AreBack t xs → AreBack t ys → AreBack t (xs ++ ys)
@@ -81,13 +84,24 @@ module _ (u : ℕ) (L M : List Record) (c d : CoreState) where
   recover_leaves r s = ap (λ (k : CoreState). state_of k.system u) s.3.1
 
   pub back_leaves : (v : ℕ) (b : Block) → (v == u) ≡ false → IsStep L c (TakesBack v b) M d → state_of d.system u ≡ state_of c.system u
-  back_leaves v b apart s = ap (λ (k : CoreState). state_of k.system u) s.2.1 ∙ ap state_in (row_there c.system.table v u without_last apart)
+  back_leaves v b apart s = ap (λ (k : CoreState). state_of k.system u) s.2.1 ∙ ap state_in (row_apart c.system.table v u without_last apart)
 
   pub claim_leaves : (v : ℕ) → (v == u) ≡ false → IsStep L c (Claims v) M d → state_of d.system u ≡ state_of c.system u
-  claim_leaves v apart s = ap (λ (k : CoreState). state_of k.system u) s.2.1 ∙ ap state_in (row_there c.system.table v u (with_state (Cleaning s.0)) apart)
+  claim_leaves v apart s = ap (λ (k : CoreState). state_of k.system u) s.2.1 ∙ ap state_in (row_apart c.system.table v u (with_state (Cleaning s.0)) apart)
 
   pub give_leaves : (v : ℕ) (o : Option ℕ) → (v == u) ≡ false → IsStep L c (GivesBack v o) M d → state_of d.system u ≡ state_of c.system u
-  give_leaves v o apart s = ap (λ (k : CoreState). state_of k.system u) s.1.1 ∙ ap state_in (row_there c.system.table v u (with_state (Dead o)) apart)
+  give_leaves v o apart s = ap (λ (k : CoreState). state_of k.system u) s.1.1 ∙ ap state_in (row_apart c.system.table v u (with_state (Dead o)) apart)
+
+-- who is alive isn't the dead one that is claimed, recovered and given back, and stays alive
+pub apart_recovery : (u v w r : ℕ) (o : Option ℕ) (m m1 m2 m3 : Moment) → is_alive (state_of m.core.system u) ≡ true → w ≡ v
+    → IsStep m.log m.core (Claims v) m1.log m1.core → IsStep m1.log m1.core (Recovers r) m2.log m2.core → IsStep m2.log m2.core (GivesBack w o) m3.log m3.core
+    → ((v == u) ≡ false) × ((w == u) ≡ false) × (is_alive (state_of m3.core.system u) ≡ true)
+apart_recovery u v w r o m m1 m2 m3 alive same claim recovery gift =
+    let other : (v == u) ≡ false = dead_apart m.core.system v u claim.0 claim.1 alive in
+    let other2 : (w == u) ≡ false = ap (λ (k : ℕ). k == u) same ∙ other in
+    let alive1 = ap is_alive (claim_leaves u m.log m1.log m.core m1.core v other claim) ∙ alive in
+    let alive2 = ap is_alive (recover_leaves u m1.log m2.log m1.core m2.core r recovery) ∙ alive1 in
+    (other, other2, ap is_alive (give_leaves u m2.log m3.log m2.core m3.core w o other2 gift) ∙ alive2)
 
 back_apart : (t u : ℕ) (x : Step) (m n : Moment) (xs : List Step) → (t == u) ≡ false → is_apart u x ≡ true → is_alive (state_of m.core.system u) ≡ true → AreBack t xs → IsCourse m (xs ++ x ∷ []) n
     → list_all (is_apart u) (xs ++ x ∷ []) ≡ true
@@ -100,15 +114,8 @@ back_apart t u x m n (TakesBack v b ∷ xs) apart last alive p course =
     and_from (not (v == u)) _ (not_from_false (v == u) other)
     (back_apart t u x course.0 n xs apart last (ap is_alive (back_leaves u m.log course.0.log m.core course.0.core v b other course.1.0) ∙ alive) p.1 course.2)
 back_apart t u x m n (Claims v ∷ Recovers r ∷ GivesBack w o ∷ xs) apart last alive p course =
-    let m1 = course.0 in
-    let m2 = course.2.0 in
-    let m3 = course.2.2.0 in
-    let other : (v == u) ≡ false = dead_apart m.core.system v u course.1.0.0 course.1.0.1 alive in
-    let other2 : (w == u) ≡ false = ap (λ (k : ℕ). k == u) p.1 ∙ other in
-    let alive1 = ap is_alive (claim_leaves u m.log m1.log m.core m1.core v other course.1.0) ∙ alive in
-    let alive2 = ap is_alive (recover_leaves u m1.log m2.log m1.core m2.core r course.2.1.0) ∙ alive1 in
-    let alive3 = ap is_alive (give_leaves u m2.log m3.log m2.core m3.core w o other2 course.2.2.1.0) ∙ alive2 in
-    and_from (not (v == u)) _ (not_from_false (v == u) other) (and_from (not (w == u)) _ (not_from_false (w == u) other2) (back_apart t u x m3 n xs apart last alive3 p.3 course.2.2.2))
+    let a = apart_recovery u v w r o m course.0 course.2.0 course.2.2.0 alive p.1 course.1.0 course.2.1.0 course.2.2.1.0 in
+    and_from (not (v == u)) _ (not_from_false (v == u) a.0) (and_from (not (w == u)) _ (not_from_false (w == u) a.1) (back_apart t u x course.2.2.0 n xs apart last a.2 p.3 course.2.2.2))
 back_apart t u x m n (Recovers r ∷ xs) apart last alive p course =
     back_apart t u x course.0 n xs apart last (ap is_alive (recover_leaves u m.log course.0.log m.core course.0.core r course.1.0) ∙ alive) p course.2
 back_apart t u x m n (y ∷ xs) apart last alive p course = absurd p

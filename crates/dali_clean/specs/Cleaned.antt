@@ -14,14 +14,14 @@
 --     Claims rs y t rs' z      t was claimed, and the operation in which its client died taken back
 --     IsUndone rs y t rs' z    all undos of t were performed, and the system logged its end
 --     Ends, GivesBack          the steps of a clean-up lead to its end; or to its claim given back, and it is dead again
-use Rattle.std.specs.Prelude.{◌≡◌, ◌==◌, ℕ, true, false, ⊤, List, [], ◌∷◌, ◌++◌, Option, Some, None, IfSome, IsSome, IsSomeAnd, length, slice_get, slice_set}
+use Rattle.std.specs.Prelude.{◌≡◌, ◌==◌, ℕ, true, false, List, [], ◌∷◌, ◌++◌, Option, Some, None, IfSome, IsSome, IsSomeAnd, length, slice_get, slice_set}
 use Rattle.dali_geometry.specs.Places.{regions}
 use Rattle.dali_record.specs.declared.records.Record.{Record}
 use Rattle.dali_record.specs.declared.records.Record.TheVariants.{Ended}
 use Rattle.dali_region.specs.declared.Hold.{Hold}
 use Rattle.dali_region.specs.State.{RegionState, taken_back}
 use Rattle.dali_att.specs.declared.state.State.{State}
-use Rattle.dali_att.specs.declared.state.State.TheVariants.{Dead, Cleaning}
+use Rattle.dali_att.specs.declared.state.State.TheVariants.{Dead}
 use Rattle.dali_att.specs.Table.{undos_at}
 use Rattle.dali_system.specs.State.{SystemState, VaultState, CoreState, row_of, state_of, hold_in}
 use Rattle.dali_system.specs.Run.{Bases, no_image}
@@ -29,6 +29,7 @@ use Rattle.dali_system.specs.Steps.{ended_logged}
 use Rattle.dali_system.specs.Passes.{Audits}
 use Rattle.dali_system.specs.Wholes.{IsWhole, AreOfKind, latched_in}
 use Rattle.dali_system.specs.Courses.{Step, GivesBack as GivesTxnBack, Ends as EndsTxn, Moment, IsCourse, RunsAt}
+use Rattle.dali_calls.specs.TakingBack.{is_claimed}
 use Rattle.dali_clean.specs.Steps.{AreBack, IsClaim, IsCleanUp, AreBeside}
 
 abbrev pub core : List RegionState → SystemState → VaultState → CoreState
@@ -69,10 +70,6 @@ LeadsBy P rs y rs' z = (bases : Bases) (before L : List Record) (v : VaultState)
 
 abbrev pub LeadsOn : List RegionState → SystemState → ℕ → List RegionState → SystemState → Type 0
 LeadsOn rs y t rs' z = LeadsBy (AreBack t) rs y rs' z
-
-abbrev pub is_claimed : State → Type 0
-is_claimed (Cleaning latched) = ⊤
-is_claimed _ = ⊥
 
 pub record IsCleaning (rs : List RegionState) (y : SystemState) (t : ℕ) : Type 0 where
   pub regions : length rs ≡ regions y.sizes

@@ -2,8 +2,6 @@
 --     IsFreed rs u rs'         a region that u had latched is latched by nobody any more
 --     RowStays rs y u rs' z    u has the row that it had; or it is dead as it was, a region that it had latched is free, and its row names none
 --     OthersStay rs y t rs' z  each other transaction has its row so, and its locks; and no region is latched that wasn't
---     PromisesStay s t z       each other one has the memory promised that it had
---     IsGone y t               t has no row, so nothing to take back, and no lock
 --     HasKept s z              each transaction, t too, has the locks that it had, and the memory promised
 use Rattle.std.specs.Prelude.{◌≡◌, ◌==◌, ◌⊎◌, ℕ, false, List, None, Some, slice_get, option_map}
 use Rattle.dali_region.specs.declared.Hold.{Hold}
@@ -12,7 +10,7 @@ use Rattle.dali_att.specs.declared.state.State.TheVariants.{Dead}
 use Rattle.dali_att.specs.Table.{with_state}
 use Rattle.dali_system.specs.State.{SystemState, row_of, state_of, lock_of, hold_in}
 use Rattle.dali_core.specs.Served.{Served}
-use Rattle.dali_core.specs.Promised.{promised_to}
+use Rattle.dali_calls.specs.Others.{HoldStays}
 use Rattle.dali_clean.specs.Cleaned.{IsDead}
 
 abbrev pub IsFreed : List RegionState → ℕ → List RegionState → Type 0
@@ -22,19 +20,10 @@ abbrev pub RowStays : List RegionState → SystemState → ℕ → List RegionSt
 RowStays rs y u rs' z =
     (row_of z u ≡ row_of y u) ⊎ (IsDead (state_of y u) × IsFreed rs u rs' × (row_of z u ≡ option_map (with_state (Dead None)) (row_of y u)))
 
-abbrev pub HoldStays : List RegionState → List RegionState → ℕ → Type 0
-HoldStays rs rs' r = (hold_in (slice_get rs' r) ≡ hold_in (slice_get rs r)) ⊎ (hold_in (slice_get rs' r) ≡ None)
-
 pub record OthersStay (rs : List RegionState) (y : SystemState) (t : ℕ) (rs' : List RegionState) (z : SystemState) : Type 0 where
   pub rows : (u : ℕ) → (t == u) ≡ false → RowStays rs y u rs' z
   pub locks : (u k : ℕ) → (t == u) ≡ false → lock_of z u k ≡ lock_of y u k
   pub holds : (r : ℕ) → HoldStays rs rs' r
-
-abbrev pub PromisesStay : Served → ℕ → Served → Type 0
-PromisesStay s t z = (u : ℕ) → (t == u) ≡ false → promised_to z.promised u ≡ promised_to s.promised u
-
-abbrev pub IsGone : SystemState → ℕ → Type 0
-IsGone y t = (row_of y t ≡ None) × ((k : ℕ) → lock_of y t k ≡ None)
 
 pub record HasKept (s z : Served) : Type 0 where
   pub locks : z.state.locks ≡ s.state.locks

@@ -7,14 +7,14 @@
 --     IsCleanUp y t x xs       so it is, then its undos are performed, and the last step is x: its end, or its claim given back
 --     is_own_step t x          the step x is one of a clean-up of t
 --     OwnSteps                 each step of one is: nothing is logged but its undos and its end
---     is_apart t x             the step x isn't one of t: it is of another transaction, or of none
 --     AreBeside t y xs         no step is one of another transaction that is alive in the system y
-use Rattle.std.specs.Prelude.{◌≡◌, ◌==◌, ⊤, ℕ, Bool, true, false, not, List, [], ◌∷◌, ◌++◌, Option, Some, None}
+use Rattle.std.specs.Prelude.{◌≡◌, ◌==◌, ⊤, ℕ, Bool, true, false, List, [], ◌∷◌, ◌++◌, Option, Some, None}
 use Rattle.std.specs.List.{list_all}
 use Rattle.dali_att.specs.declared.state.State.TheVariants.{Dead}
 use Rattle.dali_system.specs.State.{SystemState, state_of}
 use Rattle.dali_system.specs.Regions.{RegionStep, Latch, NoteReads, Update, TakeBack, is_alive}
-use Rattle.dali_system.specs.Courses.{Step, Operates, TakesBack, Frees, Answers, Commits, Ends, Locks, Refuses, OnRegion, Dies, Claims, GivesBack, Recovers}
+use Rattle.dali_system.specs.Courses.{Step, TakesBack, Ends, OnRegion, Claims, GivesBack, Recovers}
+use Rattle.dali_calls.specs.Others.{is_apart}
 
 abbrev pub is_own_change : ℕ → RegionStep → Bool
 is_own_change t (Latch u) = u == t
@@ -61,24 +61,5 @@ abbrev pub OwnSteps : Type 0
 OwnSteps = (y : SystemState) (t : ℕ) (x : Step) (xs : List Step) → IsCleanUp y t x xs → is_own_step t x ≡ true → list_all (is_own_step t) xs ≡ true
 
 -- ---- others
-abbrev pub is_apart_on : ℕ → RegionStep → Bool
-is_apart_on t (Latch u) = not (u == t)
-is_apart_on t x = true
-
-abbrev pub is_apart : ℕ → Step → Bool
-is_apart t (Operates u b) = not (u == t)
-is_apart t (TakesBack u b) = not (u == t)
-is_apart t (Frees u b) = not (u == t)
-is_apart t (Answers u call a) = not (u == t)
-is_apart t (Commits u) = not (u == t)
-is_apart t (Ends u) = not (u == t)
-is_apart t (Locks u k m) = not (u == t)
-is_apart t (Refuses u k m h) = not (u == t)
-is_apart t (Dies u o) = not (u == t)
-is_apart t (Claims u) = not (u == t)
-is_apart t (GivesBack u o) = not (u == t)
-is_apart t (OnRegion r x) = is_apart_on t x
-is_apart t x = true
-
 abbrev pub AreBeside : ℕ → SystemState → List Step → Type 0
 AreBeside t y xs = (u : ℕ) → (t == u) ≡ false → is_alive (state_of y u) ≡ true → list_all (is_apart u) xs ≡ true

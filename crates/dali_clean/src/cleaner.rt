@@ -6,9 +6,10 @@ ghost use Rattle.dali_system.specs.State.{state_of};
 ghost use Rattle.dali_core.specs.Refused.{stop_refusal};
 ghost use Rattle.dali_core.specs.declared.error.SystemError.TheVariants.{OutOfMemory as Memory};
 ghost use Rattle.dali_calls.specs.Flags.{FlagsStay};
+ghost use Rattle.dali_calls.specs.Others.{PromisesStay, IsGone};
 ghost use Rattle.dali_clean.specs.declared.error.CleanError.TheVariants.{NotDead as IsNotDead, Stopped, OutOfMemory};
 ghost use Rattle.dali_clean.specs.Cleaned.{AreDead, MayClean, IsDead, IsLeftAt, IsRecovered, IsCleaning, Claims, LeadsOn, IsUndone, Ends, GivesBack};
-ghost use Rattle.dali_clean.specs.Others.{OthersStay, PromisesStay, IsGone, HasKept};
+ghost use Rattle.dali_clean.specs.Others.{OthersStay, HasKept};
 
 use crate::error::CleanError;
 use crate::undoing::{release, undo};

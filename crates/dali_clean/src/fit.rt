@@ -1,7 +1,6 @@
 //! Whether regions and system have what a clean-up asks.
 ghost use Rattle.std.specs.Prelude.{◌≡◌, true};
 ghost use Rattle.std.specs.List.{list_all};
-ghost use Rattle.dali_record.specs.Legal.{on_kind as is_on_kind};
 ghost use Rattle.dali_system.specs.Wholes.{is_of_kind, latched_in};
 ghost use Rattle.dali_clean.specs.Cleaned.{MayClean};
 ghost use Rattle.dali_clean.specs.Fit.{HasLeft, IsNamed, StandsSo, StandSo};
@@ -9,22 +8,8 @@ ghost use Rattle.dali_clean.specs.Fit.{HasLeft, IsNamed, StandsSo, StandSo};
 use dali_att::State;
 use dali_core::System;
 use dali_geometry::Geometry;
-use dali_record::{Op, Pending, undo_op};
+use dali_record::{Pending, on_kind, undo_op};
 use dali_region::{Hold, Region};
-
-// Whether the operation names a region of its kind.
-fn on_kind(geometry: Geometry, region: u32, op: &Op) -> bool
-    ensures { result ≡ is_on_kind geometry region op.now }
-{
-    match op {
-        Op::Look => region < geometry.index(),
-        Op::Add { .. } => region < geometry.index(),
-        Op::KillEntry { .. } => region < geometry.index(),
-        Op::FreeEntry { .. } => region < geometry.index(),
-        Op::ReviveEntry { .. } => region < geometry.index(),
-        _ => geometry.index() <= region && region < geometry.regions(),
-    }
-}
 
 /// Whether an undo is on a region of its kind.
 pub fn is_of_kind(geometry: Geometry, pending: &Pending) -> bool

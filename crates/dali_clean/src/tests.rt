@@ -187,23 +187,25 @@ fn put_and_clean(
 #[test]
 fn a_dead_transaction_is_cleaned_up(rt: HostRuntime) -> Result<(), Fail> {
     let granted = Some(LockAnswer::Granted);
-    assert_eq!(rt;
-        put_and_clean(rt.alloc(), false),
-        Some((Ok(()), Some(true), None, 7, granted))
-    );
     let stopped = CleanError::Stopped {
         cause: Cause::Store,
     };
     let dead = Some(State::Dead { latched: None });
     assert_eq!(rt;
-        put_and_clean(rt.alloc(), true),
-        Some((Err(stopped), Some(false), dead, 5, None))
+        (
+            put_and_clean(rt.alloc(), false),
+            put_and_clean(rt.alloc(), true)
+        ),
+        (
+            Some((Ok(()), Some(true), None, 7, granted)),
+            Some((Err(stopped), Some(false), dead, 5, None))
+        )
     );
     Ok(())
 }
 
 // Writes the first word of an operation of a transaction on a region, and then its client dies.
-#[tactic(auto, using(crate::proofs::Guards::is_live))]
+#[tactic(auto, using(dali_calls::proofs::Operating::is_live))]
 fn die_in(system: &mut System, region: &mut Region, number: u32, txn: u64, op: Op) -> bool
     requires { IsOperation op }
 {
@@ -235,13 +237,13 @@ fn cleaned_over(
     if !own.dead || own.txn != txn || !other.dead || other.txn == txn {
         return None;
     }
+    if !of_kind(&system.geometry(), system.table().undos(txn)) {
+        return None;
+    }
     let Some(State::Dead { latched: Some(0) }) = system.state(txn) else {
         return None;
     };
     if system.geometry().regions() != 2 {
-        return None;
-    }
-    if !of_kind(&system.geometry(), system.table().undos(txn)) {
         return None;
     }
     let mut regions = [index, heap];

@@ -1,26 +1,15 @@
 //! One undo of a clean-up, on the region that it wants.
 ghost use Rattle.std.specs.Prelude.{◌≡◌, true, Err, None, IsSomeAnd, IfSome, OnOk, OnErr, IfErr};
 ghost use Rattle.dali_record.specs.Spelling.{IsUndo};
-ghost use Rattle.dali_system.specs.Regions.{IsOpen};
 ghost use Rattle.dali_core.specs.Refused.{stop_refusal};
-ghost use Rattle.dali_core.specs.UnderWay.{IsUnderWay};
 ghost use Rattle.dali_core.specs.declared.error.SystemError.TheVariants.{OutOfMemory as Memory};
 ghost use Rattle.dali_calls.specs.Flags.{FlagStays};
-ghost use Rattle.dali_clean.specs.Undone.{AreWritten, Undone, Released, IsUnheld, IsTakenBack};
+ghost use Rattle.dali_calls.specs.Operating.{Undone, IsTakenBack};
+ghost use Rattle.dali_clean.specs.Undone.{Released, IsUnheld};
 
+use dali_calls::write_back;
 use dali_core::{System, SystemError, TakeBack};
 use dali_region::Region;
-
-// Writes all words of the open operation.
-fn write_back(back: &mut TakeBack, region: &mut Region)
-    requires { IsSomeAnd back.old.operation (λ o. IsUnderWay o.txn o.block o.left o.taken region.old) }
-    ensures is_open { IsSomeAnd back.new.operation (λ o. IsOpen region.new o.txn o.block) }
-    ensures same { IfSome back.old.operation (λ o. IsSomeAnd back.new.operation (λ p. (p.txn ≡ o.txn) × (p.block ≡ o.block))) }
-    ensures rest { back.new ≡ record back.old { operation = back.new.operation } }
-    ensures written { AreWritten region.old region.new }
-{
-    while back.update(region) {}
-}
 
 // Performs the undo that is last now, and logs its block. Where that is refused the words are taken back.
 pub(crate) fn undo(

@@ -1,46 +1,32 @@
 -- What is known of a transaction that is claimed, by its state, and of a region by the operation that is under way.
-use Rattle.std.proofs.Common.{◌≡◌, ℕ, Bool, Option, Some, None, true, false, cond, refl, sym, ap, subst, ◌∙◌}
+use Rattle.std.proofs.Common.{◌≡◌, ℕ, Option, Some, None, true, sym, subst}
 use Rattle.std.specs.Prelude.{IsSomeAnd, IfSome}
 use Rattle.dali_record.specs.declared.operations.Block.{Block}
 use Rattle.dali_region.specs.declared.Hold.{Hold}
-use Rattle.dali_region.specs.State.{RegionState, IsLive}
 use Rattle.std.specs.Option.{option_map}
 use Rattle.std.specs.FinMap.{get}
-use Rattle.dali_lists.proofs.Numbers.{eqb-self}
-use Rattle.dali_record.specs.declared.operations.Pending.{Pending}
-use Rattle.dali_att.specs.Table.{Table, Row, with_row, with_state, without_last}
-use Rattle.dali_att.proofs.Changes.{get-with_row}
+use Rattle.dali_att.specs.Table.{with_state, without_last}
 use Rattle.dali_system.specs.State.{SystemState, TxnRow, state_in, state_of}
 use Rattle.dali_system.specs.Steps.{in_state, back_logged}
 use Rattle.dali_core.specs.Served.{Served}
-use Rattle.dali_core.specs.UnderWay.{IsUnderWay}
 use Rattle.dali_core.specs.declared.operation.Operation.{Operation}
-use Rattle.dali_att.specs.declared.state.State.{State}
 use Rattle.dali_att.specs.declared.state.State.TheVariants.{Dead, Cleaning}
-use Rattle.dali_cleanup.specs.Cleaned.{is_claimed}
-
-pub claimed : (o : Option State) (latched : Option ℕ) → o ≡ Some (Cleaning latched) → IsSomeAnd o is_claimed
-claimed o latched e = rw e tt
-
-pub is_live : (txn : ℕ) (b : Block) (left taken : ℕ) (g : RegionState) → IsUnderWay txn b left taken g → IsLive g
-is_live txn b left taken g way = subst (λ (o : Option Hold). IsSomeAnd o (λ h. h.dead ≡ false)) (sym way.hold) refl
+use Rattle.dali_calls.specs.TakingBack.{is_claimed}
+use Rattle.dali_calls.proofs.Rows.{row_here}
 
 pub is_left : (t : ℕ) (o : Option Hold) (h : Hold) → o ≡ Some h → h.dead ≡ true → h.txn ≡ t → IsSomeAnd o (λ h. (h.dead ≡ true) × (h.txn ≡ t))
 is_left t o h is dead own = subst (λ (o : Option Hold). IsSomeAnd o (λ h. (h.dead ≡ true) × (h.txn ≡ t))) (sym is) (dead, own)
 
 -- ---- the claim stands
-at_own : (m : Table Pending) (t : ℕ) (f : Row Pending → Row Pending) → get (with_row m t f) t ≡ option_map f (get m t)
-at_own m t f = get-with_row m t f t ∙ ap (λ (b : Bool). cond b (option_map f (get m t)) (get m t)) (eqb-self t)
-
 pub claimed_now : (y : SystemState) (t : ℕ) (o : Option ℕ) → state_of y t ≡ Some (Dead o) → IsSomeAnd (state_of (in_state y t (Cleaning o)) t) is_claimed
-claimed_now y t o dead = subst (λ (r : Option TxnRow). IsSomeAnd (state_in r) is_claimed) (sym (at_own y.table t (with_state (Cleaning o)))) (by_row (get y.table t) dead)
+claimed_now y t o dead = subst (λ (r : Option TxnRow). IsSomeAnd (state_in r) is_claimed) (sym (row_here y.table t (with_state (Cleaning o)))) (by_row (get y.table t) dead)
   where
     by_row : (r : Option TxnRow) → state_in r ≡ Some (Dead o) → IsSomeAnd (state_in (option_map (with_state (Cleaning o)) r)) is_claimed
     by_row None e = let no : None ≡ Some (Dead o) = e in absurd cc
     by_row (Some row) e = tt
 
 pub claimed_still : (y : SystemState) (t : ℕ) (b : Block) → IsSomeAnd (state_of y t) is_claimed → IsSomeAnd (state_of (back_logged y t b) t) is_claimed
-claimed_still y t b was = subst (λ (r : Option TxnRow). IsSomeAnd (state_in r) is_claimed) (sym (at_own y.table t without_last)) (by_row (get y.table t) was)
+claimed_still y t b was = subst (λ (r : Option TxnRow). IsSomeAnd (state_in r) is_claimed) (sym (row_here y.table t without_last)) (by_row (get y.table t) was)
   where
     by_row : (r : Option TxnRow) → IsSomeAnd (state_in r) is_claimed → IsSomeAnd (state_in (option_map without_last r)) is_claimed
     by_row None h = h

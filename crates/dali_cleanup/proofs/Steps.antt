@@ -15,18 +15,12 @@ use Rattle.dali_region.specs.declared.Hold.{Hold}
 use Rattle.dali_system.specs.State.{CoreState, state_of, hold_in}
 use Rattle.dali_system.specs.Keeps.{may_log_in, MayRecover}
 use Rattle.dali_facts.specs.Plans.{AtWork}
+use Rattle.dali_calls.specs.TakingBack.{is_claimed}
 use Rattle.dali_calls.proofs.Stepping.{state_there}
-use Rattle.dali_calls.proofs.TakingBack.{taking_back_is_step}
-use Rattle.dali_cleanup.specs.Cleaned.{IsLeft, is_claimed}
+use Rattle.dali_calls.proofs.TakingBack.{taking_back_is_step, latched_of}
+use Rattle.dali_cleanup.specs.Cleaned.{IsLeft}
 use Rattle.dali_cleanup.specs.Stepped.{DeadLeaves, ClaimIsStep, RecoverIsStep, CleanIsStep, EndIsStep, GiveBackIsStep}
 use Rattle.dali_cleanup.proofs.Claims.{is_left}
-
-latched_of : (o : Option State) → IsSomeAnd o is_claimed → (latched : Option ℕ) × (o ≡ Some (Cleaning latched))
-latched_of None h = absurd h
-latched_of (Some Live) h = absurd h
-latched_of (Some (Dead latched)) h = absurd h
-latched_of (Some (Cleaning latched)) h = (latched, refl)
-latched_of (Some Committed) h = absurd h
 
 pub claim_is_step : ClaimIsStep
 claim_is_step L c t o is = (o, is, (refl, refl))

@@ -5,7 +5,6 @@
 --     IsLeft t g               the region has the hold with which the client of t died
 --     MayLatch c g             what a latch asks: the claim, and a hold that its dead client left, or an undo to be performed
 --     clean_answer ..          what a latch answers
---     is_claimed st            the transaction is claimed
 --     IsWhole c                what is true of every clean-up
 use Rattle.std.specs.Prelude.{◌≡◌, ℕ, Bool, true, false, ⊤, Option, Some, None, IsSome, IsSomeAnd, Result, Ok}
 use Rattle.dali_record.specs.declared.operations.Pending.{Pending}
@@ -13,8 +12,6 @@ use Rattle.dali_record.specs.Spelling.{IsUndo}
 use Rattle.dali_region.specs.State.{RegionState}
 use Rattle.dali_region.specs.Answers.{latch_answer}
 use Rattle.dali_region.specs.declared.LatchError.{LatchError}
-use Rattle.dali_att.specs.declared.state.State.{State}
-use Rattle.dali_att.specs.declared.state.State.TheVariants.{Cleaning}
 use Rattle.dali_core.specs.TakenBack.{IsUndoBlock}
 use Rattle.dali_core.specs.declared.want.Want.{Want}
 use Rattle.dali_core.specs.declared.want.Want.TheVariants.{Region, Done, Nothing}
@@ -50,10 +47,6 @@ MayLatch c g = (c.claimed ≡ true) × may_latch c.txn c.latched c.next g
 abbrev pub clean_answer : Option ℕ → Bool → RegionState → Result (Unit {0}) LatchError
 clean_answer (Some r) precheck g = Ok tt
 clean_answer None precheck g = latch_answer precheck g
-
-abbrev pub is_claimed : State → Type 0
-is_claimed (Cleaning latched) = ⊤
-is_claimed _ = ⊥
 
 -- ---- what is true of every clean-up
 abbrev pub AreUndone : Option Pending → Type 0

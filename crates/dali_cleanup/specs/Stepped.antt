@@ -23,8 +23,8 @@ use Rattle.dali_system.specs.Wholes.{IsWhole}
 use Rattle.dali_system.specs.Courses.{Claims, Recovers, Ends, GivesBack, IsStep}
 use Rattle.dali_facts.specs.Plans.{AtWork}
 use Rattle.dali_core.specs.TakenBack.{IsMadeOf}
-use Rattle.dali_calls.specs.TakingBack.{IsTakenBackBy}
-use Rattle.dali_cleanup.specs.Cleaned.{IsLeft, is_claimed}
+use Rattle.dali_calls.specs.TakingBack.{IsTakenBackBy, is_claimed}
+use Rattle.dali_cleanup.specs.Cleaned.{IsLeft}
 
 pub record MayClean (c : CoreState) (t : ℕ) (u : Pending) (b : Block) (g : RegionState) : Type 0 where
   pub txn : Is64 t

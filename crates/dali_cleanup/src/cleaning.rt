@@ -12,7 +12,8 @@ ghost use Rattle.dali_core.specs.TakenBack.{next_undo, IsUndoBlock, IsUndoOn};
 ghost use Rattle.dali_core.specs.UnderWay.{IsUpdated, IsUnderWay};
 ghost use Rattle.dali_core.specs.declared.error.SystemError.TheVariants.{OutOfMemory as Memory};
 ghost use Rattle.dali_core.specs.declared.want.Want.TheVariants.{Done};
-ghost use Rattle.dali_cleanup.specs.Cleaned.{want_of, clean_answer, MayLatch, is_claimed};
+ghost use Rattle.dali_calls.specs.TakingBack.{is_claimed};
+ghost use Rattle.dali_cleanup.specs.Cleaned.{want_of, clean_answer, MayLatch};
 
 use dali_core::{NotDead, System, SystemError, TakeBack, Want};
 use dali_region::{LatchError, Receipt, Region};

@@ -11,25 +11,30 @@ use dali_att::State;
 use dali_core::{NotDead, Operation, System, SystemError, Want};
 use dali_geometry::Geometry;
 use dali_record::Op;
-use dali_region::{Receipt, Region};
+use dali_region::{Hold, Receipt, Region};
 use dali_system::Cause;
 use dali_words::Value;
+use std::alloc::Global;
 use std::test::*;
 
+// What is answered to a begin, and to a call that makes a record.
+type Begun = Result<(u64, Receipt), SystemError>;
+
+type Noted = Result<Receipt, SystemError>;
+
 // A log of 3 records and 100 bytes, with room for 900 more.
-fn system(rt: &HostRuntime) -> Result<System> {
-    Ok(System::new(rt.alloc(), Geometry::new(1, 1)?, 3, 5, 100, 1000)?)
+fn system(alloc: Global) -> Option<System> {
+    let geometry = Geometry::new(1, 1).ok()?;
+    System::new(alloc, geometry, 3, 5, 100, 1000).ok()
 }
 
 // The client of a live transaction dies.
 fn die(system: &mut System, txn: u64, latched: Option<u32>) -> bool {
-    match system.state(txn) {
-        Some(State::Live) => {
-            system.mark_dead(txn, latched);
-            true
-        }
-        _ => false,
-    }
+    let Some(State::Live) = system.state(txn) else {
+        return false;
+    };
+    system.mark_dead(txn, latched);
+    true
 }
 
 // Takes back the operation in which a client died.
@@ -47,7 +52,7 @@ fn recover(cleaning: &mut Cleaning, region: &mut Region) -> bool
 }
 
 // Ends a clean-up that wants nothing else.
-#[tactic(auto, using(crate::proofs::Claims::claimed))]
+#[tactic(auto, using(dali_calls::proofs::TakingBack::claimed_by))]
 fn end(cleaning: Cleaning, system: &mut System) -> Option<Result<Receipt, SystemError>> {
     match (cleaning.wants(), system.state(cleaning.txn())) {
         (Want::Done, Some(State::Cleaning { .. })) => Some(cleaning.end(system)),
@@ -55,14 +60,20 @@ fn end(cleaning: Cleaning, system: &mut System) -> Option<Result<Receipt, System
     }
 }
 
-#[test]
-fn who_is_not_dead_is_not_claimed(rt: HostRuntime) -> Result<()> {
-    let mut system = system(&rt)?;
+// A begin, and claims of its live transaction and of one that isn't there.
+fn not_claimed(alloc: Global) -> Option<(Begun, Option<NotDead>, Option<NotDead>)> {
+    let mut system = system(alloc)?;
     let begun = system.begin();
     let live = Cleaning::claim(&mut system, 5).err();
     let absent = Cleaning::claim(&mut system, 6).err();
+    Some((begun, live, absent))
+}
+
+#[test]
+fn who_is_not_dead_is_not_claimed(rt: HostRuntime) -> Result<()> {
+    let seen = not_claimed(rt.alloc()).context("no system")?;
     assert_eq!(rt;
-        (begun, live, absent),
+        seen,
         (Ok((5, Receipt { number: 3 })), Some(NotDead), Some(NotDead))
     );
     Ok(())
@@ -70,10 +81,8 @@ fn who_is_not_dead_is_not_claimed(rt: HostRuntime) -> Result<()> {
 
 // The first heap region, formatted.
 fn formatted() -> Option<Region> {
-    match Geometry::new(1, 1) {
-        Ok(geometry) => Some(Region::load(geometry.formatted(1))),
-        Err(_) => None,
-    }
+    let geometry = Geometry::new(1, 1).ok()?;
+    Some(Region::load(geometry.formatted(1)))
 }
 
 // What puts three bytes.
@@ -87,7 +96,7 @@ fn put() -> Option<Op>
 }
 
 // The first word of a put is written, and then its client dies; what the word is then.
-#[tactic(auto, using(crate::proofs::Claims::is_live))]
+#[tactic(auto, using(dali_calls::proofs::Operating::is_live))]
 fn die_in_put(system: &mut System, region: &mut Region) -> Option<u64> {
     let Some(op) = put() else { return None };
     let Ok(mut operation) = Operation::start(region, 1, 5, 7, op, true) else {
@@ -110,29 +119,42 @@ fn recovered(cleaning: &mut Cleaning, region: &mut Region) -> (Want, bool, u64, 
     (first, done, region.words()[8], cleaning.wants())
 }
 
-#[test]
-fn the_operation_of_a_dead_client_comes_first(rt: HostRuntime) -> Result<()> {
-    let mut system = system(&rt)?;
-    let mut region = formatted().context("no region")?;
+// A client dies in a put, and is cleaned up; a stopped engine refuses the end, and the transaction is dead again.
+fn dead_in_put(
+    alloc: Global,
+) -> Option<
+    (
+        (Begun, Option<u64>),
+        (Want, bool, u64, Want),
+        (Option<Noted>, Option<State>),
+    ),
+> {
+    let mut system = system(alloc)?;
+    let mut region = formatted()?;
     let begun = (system.begin(), die_in_put(&mut system, &mut region));
-    let mut cleaning = Cleaning::claim(&mut system, 5)?;
+    let Ok(mut cleaning) = Cleaning::claim(&mut system, 5) else {
+        return None;
+    };
     let back = recovered(&mut cleaning, &mut region);
-    // a stopped engine refuses the end, and the transaction is dead again
     system.stop();
-    let cause = Cause::Store;
     let ended = (end(cleaning, &mut system), system.state(5));
+    Some((begun, back, ended))
+}
+
+#[test]
+fn the_operation_of_a_dead_client_comes_first(rt: HostRuntime) {
+    let cause = Cause::Store;
     assert_eq!(rt;
-        (begun, back, ended),
-        (
+        dead_in_put(rt.alloc()),
+        Some((
             (Ok((5, Receipt { number: 3 })), Some(1)),
             (Want::Region { region: 1 }, true, 0, Want::Done),
             (
                 Some(Err(SystemError::Stopped { cause })),
                 Some(State::Dead { latched: None })
             )
-        )
+        ))
     );
-    Ok(())
 }
 
 // Writes the words of an operation that has eight at most; then it is open.
@@ -170,7 +192,7 @@ fn put_in(
 }
 
 // Takes the last undo back, which writes one word.
-#[tactic(auto, using(crate::proofs::Claims::claimed))]
+#[tactic(auto, using(dali_calls::proofs::TakingBack::claimed_by))]
 fn take_back(
     cleaning: &mut Cleaning,
     region: &mut Region,
@@ -198,62 +220,103 @@ fn take_back(
     }
 }
 
-#[test]
-fn a_put_is_cleaned_up(rt: HostRuntime) -> Result<()> {
-    let mut system = system(&rt)?;
-    let mut region = formatted().context("no region")?;
+// A system and a region in which the client of the transaction 5 died behind a put, and what was answered to its calls.
+fn dead_behind_put(alloc: Global) -> Option<(System, Region, (Begun, Option<Noted>), bool)> {
+    let mut system = system(alloc)?;
+    let mut region = formatted()?;
     let begun = (system.begin(), put_in(&mut system, &mut region, 5));
     let dead = die(&mut system, 5, None);
-    let mut cleaning = Cleaning::claim(&mut system, 5)?;
+    Some((system, region, begun, dead))
+}
+
+// Whether one word is written for the undo, the cell's state: its key, length and value stay, and the codeword tells no stray
+// write.
+fn is_free_again(region: &mut Region) -> Option<bool> {
+    let geometry = Geometry::new(1, 1).ok()?;
+    let mut words = geometry.formatted(1);
+    words[9..12].copy_from_slice(&[7, 3, 0x6162_6300_0000_0000]);
+    Some(region.words().as_slice() == words.as_slice() && region.check() == 0)
+}
+
+// The clean-up of a put up to its end.
+fn cleaned_up(
+    alloc: Global,
+) -> Option<
+    (
+        (Begun, Option<Noted>),
+        bool,
+        Option<Noted>,
+        (u64, (Option<Noted>, Option<State>)),
+        Option<bool>,
+    ),
+> {
+    let (mut system, mut region, begun, dead) = dead_behind_put(alloc)?;
+    let Ok(mut cleaning) = Cleaning::claim(&mut system, 5) else {
+        return None;
+    };
     let back = take_back(&mut cleaning, &mut region, &mut system);
     let ended = (end(cleaning, &mut system), system.state(5));
+    let left = (region.words()[8], ended);
+    Some((begun, dead, back, left, is_free_again(&mut region)))
+}
+
+#[test]
+fn a_put_is_cleaned_up(rt: HostRuntime) {
     assert_eq!(rt;
-        (begun, dead, back, (region.words()[8], ended)),
-        (
+        cleaned_up(rt.alloc()),
+        Some((
             (
                 Ok((5, Receipt { number: 3 })),
                 Some(Ok(Receipt { number: 4 }))
             ),
             true,
             Some(Ok(Receipt { number: 5 })),
-            (0, (Some(Ok(Receipt { number: 6 })), None))
-        )
+            (0, (Some(Ok(Receipt { number: 6 })), None)),
+            Some(true)
+        ))
     );
-    // one word is written for the undo, the cell's state: its key, length and value stay, and the codeword tells no
-    // stray write
-    let mut words = Geometry::new(1, 1)?.formatted(1);
-    words[9..12].copy_from_slice(&[7, 3, 0x6162_6300_0000_0000]);
-    assert!(rt; region.words().as_slice() == words.as_slice() && region.check() == 0);
-    Ok(())
 }
 
-#[test]
-fn a_refused_commit_gives_the_claim_back(rt: HostRuntime) -> Result<()> {
-    let mut system = system(&rt)?;
-    let mut region = formatted().context("no region")?;
-    let begun = (system.begin(), put_in(&mut system, &mut region, 5));
-    let dead = die(&mut system, 5, None);
-    let mut cleaning = Cleaning::claim(&mut system, 5)?;
+// The clean-up of a put whose commit a stopped engine refuses: the put stands as it was, and the stale clean-up wants nothing
+// of it.
+fn refused(
+    alloc: Global,
+) -> Option<
+    (
+        bool,
+        bool,
+        Want,
+        Option<Noted>,
+        (u64, Option<Hold>, Want, Option<State>),
+    ),
+> {
+    let (mut system, mut region, begun, dead) = dead_behind_put(alloc)?;
+    let Ok(mut cleaning) = Cleaning::claim(&mut system, 5) else {
+        return None;
+    };
     let first = cleaning.wants();
     system.stop();
-    let cause = Cause::Store;
     let back = take_back(&mut cleaning, &mut region, &mut system);
-    // the put stands as it was, and the stale clean-up wants nothing of it
     let left = (
         region.words()[8],
         region.hold(),
         cleaning.wants(),
         system.state(5),
     );
+    Some((begun.0.is_ok(), dead, first, back, left))
+}
+
+#[test]
+fn a_refused_commit_gives_the_claim_back(rt: HostRuntime) {
+    let cause = Cause::Store;
     assert_eq!(rt;
-        (begun.0.is_ok(), dead, first, back, left),
-        (
+        refused(rt.alloc()),
+        Some((
             true,
             true,
             Want::Region { region: 1 },
             Some(Err(SystemError::Stopped { cause })),
             (1, None, Want::Nothing, Some(State::Dead { latched: None }))
-        )
+        ))
     );
-    Ok(())
 }

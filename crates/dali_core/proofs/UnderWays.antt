@@ -47,7 +47,7 @@ starts txn number key op b g safe none is block = record {
   parts = or_zero_l b.write;
   within = (Decides-eqb (bit_and b.write b.read) b.write).0 (first_true (is_within b.write b.read) (is_outcome_of b.op b.outcome) (undoes b.op b.outcome b.undo) block.fit);
   fits = block.write;
-  size = safe.size;
+  size = safe.words.0;
   count = omega (arith, block.count);
   reads = ap (λ (x : Block). not (x.read == 0)) is ∙ made_reads op key number g.words;
   sound = λ un. ap (λ ws. made ws b.key b.region b.op) (sym same) ∙ (ap (λ (x : Block). made g.words x.key x.region x.op) is ∙ sym is);

@@ -12,7 +12,17 @@ use dali_record::{Answer, Call, Op, Pending, Record, Undo};
 use dali_region::{Receipt, Region};
 use dali_system::{Cause, Refusal};
 use dali_words::Value;
+use std::alloc::Global;
 use std::test::*;
+
+// What is answered to a begin, to a request for a lock, to a call that makes a record, and to a claim.
+type Begun = Result<(u64, Receipt), SystemError>;
+
+type Given = Result<LockAnswer, SystemError>;
+
+type Noted = Result<Receipt, SystemError>;
+
+type Claimed = Result<Option<u32>, NotDead>;
 
 // Commits a transaction of the table.
 #[tactic(auto, using(crate::proofs::Guards::some_row))]
@@ -35,16 +45,24 @@ fn die(system: &mut System, txn: u64, latched: Option<u32>) -> bool {
 }
 
 // A log of 3 records and 100 bytes, and a limit.
-fn system_to(rt: &HostRuntime, limit: u64) -> Result<System>
+fn system_to(alloc: Global, limit: u64) -> Option<System>
     requires { limit ≤ 268435456 }
 {
-    Ok(System::new(rt.alloc(), Geometry::new(1, 1)?, 3, 5, 100, limit)?)
+    let geometry = Geometry::new(1, 1).ok()?;
+    System::new(alloc, geometry, 3, 5, 100, limit).ok()
 }
 
-// One test states what it saw in few assertions: each of them takes seconds to prove.
-#[test]
-fn two_clients_and_one_key(rt: HostRuntime) -> Result<()> {
-    let mut system = system_to(&rt, 1000)?;
+// Two clients begin, ask for two keys each, and one of them ends; then the other one asks again.
+fn two_clients(
+    system: &mut System,
+) -> (
+    (Begun, Begun),
+    (Given, Given, Given, Given),
+    Noted,
+    (Option<Noted>, Option<State>),
+    (Noted, Option<State>),
+    Given,
+) {
     let begun = (system.begin(), system.begin());
     let asked = (
         system.request(5, 7, Mode::Exclusive),
@@ -53,33 +71,17 @@ fn two_clients_and_one_key(rt: HostRuntime) -> Result<()> {
         system.request(5, 8, Mode::Shared),
     );
     let done = system.done(5, &Call::Get { key: 7 }, &Answer::Missing);
-    let committed = (commit(&mut system, 5), system.state(5));
+    let committed = (commit(system, 5), system.state(5));
     let ended = (system.ended(5), system.state(5));
     let again = system.request(6, 7, Mode::Shared);
-    assert_eq!(rt;
-        (begun, asked),
-        (
-            (
-                Ok((5, Receipt { number: 3 })),
-                Ok((6, Receipt { number: 4 }))
-            ),
-            (
-                Ok(LockAnswer::Granted),
-                Ok(LockAnswer::Busy { holder: 5 }),
-                Ok(LockAnswer::Granted),
-                Ok(LockAnswer::Wait { holder: 6 })
-            )
-        )
-    );
-    assert_eq!(rt;
-        (done, committed, ended, again),
-        (
-            Ok(Receipt { number: 5 }),
-            (Some(Ok(Receipt { number: 6 })), Some(State::Committed)),
-            (Ok(Receipt { number: 7 }), None),
-            Ok(LockAnswer::Granted)
-        )
-    );
+    (begun, asked, done, committed, ended, again)
+}
+
+// One test states what it saw in few assertions: each of them takes seconds to prove.
+#[test]
+fn two_clients_and_one_key(rt: HostRuntime) -> Result<()> {
+    let mut system = system_to(rt.alloc(), 1000).context("no system")?;
+    let seen = two_clients(&mut system);
     let refusal = Refusal {
         txn: 6,
         key: 7,
@@ -93,12 +95,29 @@ fn two_clients_and_one_key(rt: HostRuntime) -> Result<()> {
     let logged = system.logged();
     assert_eq!(rt;
         (
+            seen,
             system.refusals(),
             logged.starts_with(first.as_slice()),
             logged.ends_with(last.as_slice()),
             (system.records(), system.next(), system.end())
         ),
         (
+            (
+                (
+                    Ok((5, Receipt { number: 3 })),
+                    Ok((6, Receipt { number: 4 }))
+                ),
+                (
+                    Ok(LockAnswer::Granted),
+                    Ok(LockAnswer::Busy { holder: 5 }),
+                    Ok(LockAnswer::Granted),
+                    Ok(LockAnswer::Wait { holder: 6 })
+                ),
+                Ok(Receipt { number: 5 }),
+                (Some(Ok(Receipt { number: 6 })), Some(State::Committed)),
+                (Ok(Receipt { number: 7 }), None),
+                Ok(LockAnswer::Granted)
+            ),
             [refusal].as_slice(),
             true,
             true,
@@ -108,100 +127,148 @@ fn two_clients_and_one_key(rt: HostRuntime) -> Result<()> {
     Ok(())
 }
 
-#[test]
-fn a_limit_and_a_stop(rt: HostRuntime) -> Result<()> {
-    let mut system = system_to(&rt, 117)?;
-    let call = Call::Get { key: 7 };
+// A log with room for one begin: both begins and a call, how far the log goes then, and a commit.
+fn limited(
+    system: &mut System,
+) -> (
+    (Begun, Begun),
+    Noted,
+    (u64, u64, u64),
+    (Option<Noted>, u64, Option<Cause>),
+) {
     let begun = (system.begin(), system.begin());
-    let done = system.done(5, &call, &Answer::Missing);
+    let done = system.done(5, &Call::Get { key: 7 }, &Answer::Missing);
     let counts = (system.records(), system.next(), system.end());
     // what ends a transaction uses no room
-    let committed = (commit(&mut system, 5), system.end(), system.stopped());
+    let committed = (commit(system, 5), system.end(), system.stopped());
+    (begun, done, counts, committed)
+}
+
+// An engine that was stopped refuses all calls.
+fn stopped(
+    alloc: Global,
+    system: &mut System,
+) -> (
+    (Begun, Option<Cause>),
+    Given,
+    (Option<Noted>, Noted),
+    (Option<SystemError>, u64),
+) {
+    system.stop();
+    system.stop();
+    let begun = (system.begin(), system.stopped());
+    let asked = system.request(5, 7, Mode::Shared);
+    let ended = (commit(system, 5), system.ended(5));
+    let ready = (system.ready(alloc, 5).err(), system.records());
+    (begun, asked, ended, ready)
+}
+
+#[test]
+fn a_limit_and_a_stop(rt: HostRuntime) -> Result<()> {
+    let mut system = system_to(rt.alloc(), 117).context("no system")?;
+    let limited = limited(&mut system);
+    let refused = stopped(rt.alloc(), &mut system);
     let full = SystemError::LogFull {
         end: 109,
         limit: 117,
     };
-    assert_eq!(rt;
-        (begun, done, counts, committed),
-        (
-            (Ok((5, Receipt { number: 3 })), Err(full)),
-            Err(full),
-            (4, 6, 109),
-            (Some(Ok(Receipt { number: 4 })), 118, None)
-        )
-    );
-    system.stop();
-    system.stop();
     let stopped = SystemError::Stopped {
         cause: Cause::Store,
     };
-    let begun = (system.begin(), system.stopped());
-    let asked = system.request(5, 7, Mode::Shared);
-    let ended = (commit(&mut system, 5), system.ended(5));
-    let ready = (system.ready(rt.alloc(), 5).err(), system.records());
     assert_eq!(rt;
-        (begun, asked, ended, ready),
+        (limited, refused),
         (
-            (Err(stopped), Some(Cause::Store)),
-            Err(stopped),
-            (Some(Err(stopped)), Err(stopped)),
-            (Some(stopped), 5)
+            (
+                (Ok((5, Receipt { number: 3 })), Err(full)),
+                Err(full),
+                (4, 6, 109),
+                (Some(Ok(Receipt { number: 4 })), 118, None)
+            ),
+            (
+                (Err(stopped), Some(Cause::Store)),
+                Err(stopped),
+                (Some(Err(stopped)), Err(stopped)),
+                (Some(stopped), 5)
+            )
         )
     );
     Ok(())
+}
+
+// A client dies, and its transaction is claimed, and claimed again; another transaction isn't there.
+fn claims(
+    system: &mut System,
+) -> (
+    (Begun, Claimed),
+    (bool, Option<State>),
+    (Claimed, Claimed, Option<State>),
+    Claimed,
+) {
+    let begun = (system.begin(), system.claim(5));
+    let dead = (die(system, 5, Some(1)), system.state(5));
+    let claimed = (system.claim(5), system.claim(5), system.state(5));
+    let absent = system.claim(9);
+    (begun, dead, claimed, absent)
+}
+
+// A second copy doesn't start before the first has ended.
+fn copies(system: &mut System) -> (bool, bool, bool) {
+    let copied = (system.start_copy(), system.start_copy());
+    system.end_copy();
+    (copied.0, copied.1, system.start_copy())
 }
 
 #[test]
 fn a_client_dies(rt: HostRuntime) -> Result<()> {
-    let mut system = system_to(&rt, 1000)?;
-    let begun = (system.begin(), system.claim(5));
-    let dead = (die(&mut system, 5, Some(1)), system.state(5));
-    let claimed = (system.claim(5), system.claim(5), system.state(5));
-    let absent = system.claim(9);
+    let mut system = system_to(rt.alloc(), 1000).context("no system")?;
     assert_eq!(rt;
-        (begun, dead, claimed, absent),
+        (claims(&mut system), copies(&mut system)),
         (
-            (Ok((5, Receipt { number: 3 })), Err(NotDead)),
-            (true, Some(State::Dead { latched: Some(1) })),
             (
-                Ok(Some(1)),
-                Err(NotDead),
-                Some(State::Cleaning { latched: Some(1) })
+                (Ok((5, Receipt { number: 3 })), Err(NotDead)),
+                (true, Some(State::Dead { latched: Some(1) })),
+                (
+                    Ok(Some(1)),
+                    Err(NotDead),
+                    Some(State::Cleaning { latched: Some(1) })
+                ),
+                Err(NotDead)
             ),
-            Err(NotDead)
+            (true, false, true)
         )
     );
-    let copied = (system.start_copy(), system.start_copy());
-    system.end_copy();
-    assert_eq!(rt; (copied, system.start_copy()), ((true, false), true));
     Ok(())
 }
 
-// 10,000 records of 9 bytes, which are more than 64 KiB, taken as one batch and then as another
-#[test]
-fn many_records_in_a_batch(rt: HostRuntime) -> Result<()> {
-    let mut system = system_to(&rt, 1_000_000)?;
+// Records that wait and are taken as one batch, and one behind them.
+fn batches(alloc: Global) -> Option<((u64, usize), (usize, bool), (Begun, usize), (bool, usize))> {
+    let mut system = system_to(alloc, 1_000_000)?;
     for _ in 0..10_000 {
         let _ = system.begin();
     }
     let waiting = (system.end(), system.frame().len());
-    let taken = (
-        system.take_frame(rt.alloc())?.len(),
-        system.frame().is_empty(),
-    );
+    let Ok(frame) = system.take_frame(alloc) else {
+        return None;
+    };
+    let taken = (frame.len(), system.frame().is_empty());
     let next = (system.begin(), system.frame().len());
     system.flushed();
     let flushed = (system.frame().is_empty(), system.logged().len());
+    Some((waiting, taken, next, flushed))
+}
+
+// 10,000 records of 9 bytes, which are more than 64 KiB, taken as one batch and then as another
+#[test]
+fn many_records_in_a_batch(rt: HostRuntime) {
     assert_eq!(rt;
-        (waiting, taken, next, flushed),
-        (
+        batches(rt.alloc()),
+        Some((
             (90_100, 90_000),
             (90_000, true),
             (Ok((10_005, Receipt { number: 10_003 })), 9),
             (true, 90_009)
-        )
+        ))
     );
-    Ok(())
 }
 
 // The first heap region, formatted.
@@ -331,10 +398,19 @@ fn put_in(system: &mut System, region: &mut Region) -> Option<Result<Receipt, Sy
     }
 }
 
-#[test]
-fn a_put_is_taken_back(rt: HostRuntime) -> Result<()> {
-    let mut region = formatted().context("no region")?;
-    let mut system = system_to(&rt, 1000)?;
+// A put is taken back, and its transaction ends.
+fn put_and_taken_back(
+    alloc: Global,
+) -> Option<
+    (
+        Begun,
+        (Option<Noted>, u64),
+        (Option<(Noted, Want)>, u64, Option<Pending>),
+        Noted,
+    ),
+> {
+    let mut region = formatted()?;
+    let mut system = system_to(alloc, 1000)?;
     let begun = system.begin();
     let put = (put_in(&mut system, &mut region), region.words()[8]);
     let back = (
@@ -342,73 +418,124 @@ fn a_put_is_taken_back(rt: HostRuntime) -> Result<()> {
         region.words()[8],
         system.last_undo(5),
     );
+    Some((begun, put, back, system.ended(5)))
+}
+
+#[test]
+fn a_put_is_taken_back(rt: HostRuntime) {
     assert_eq!(rt;
-        (begun, put, back, system.ended(5)),
-        (
+        put_and_taken_back(rt.alloc()),
+        Some((
             Ok((5, Receipt { number: 3 })),
             (Some(Ok(Receipt { number: 4 })), 1),
             (Some((Ok(Receipt { number: 5 }), Want::Nothing)), 0, None),
             Ok(Receipt { number: 6 })
-        )
+        ))
     );
-    Ok(())
+}
+
+// A put and a removal; how much is to be freed, and what first.
+fn removed(
+    alloc: Global,
+    system: &mut System,
+    region: &mut Region,
+) -> Option<
+    (
+        Begun,
+        Option<Noted>,
+        Option<Noted>,
+        (usize, Option<Pending>),
+    ),
+> {
+    let begun = system.begin();
+    let put = put_in(system, region);
+    let kill = perform(system, region, 5, Op::KillCell { cell: 1 });
+    let Ok(removals) = system.ready(alloc, 5) else {
+        return None;
+    };
+    let ready = (removals.len(), removals.first().copied());
+    Some((begun, put, kill, ready))
+}
+
+// It is freed behind the commit: the word of the cell's state then, the next number, and the end.
+fn freed(
+    system: &mut System,
+    region: &mut Region,
+) -> (Option<Noted>, Option<Noted>, (u64, u64), Noted) {
+    let committed = commit(system, 5);
+    let freed = free(system, region, 5);
+    let left = (region.words()[8], system.next());
+    (committed, freed, left, system.ended(5))
+}
+
+// Both, over a new system and a formatted region.
+fn removed_and_freed(
+    alloc: Global,
+) -> Option<
+    (
+        (
+            Begun,
+            Option<Noted>,
+            Option<Noted>,
+            (usize, Option<Pending>),
+        ),
+        (Option<Noted>, Option<Noted>, (u64, u64), Noted),
+    ),
+> {
+    let mut region = formatted()?;
+    let mut system = system_to(alloc, 2000)?;
+    let first = removed(alloc, &mut system, &mut region)?;
+    Some((first, freed(&mut system, &mut region)))
 }
 
 #[test]
-fn a_removal_is_freed_behind_its_commit(rt: HostRuntime) -> Result<()> {
-    let mut region = formatted().context("no region")?;
-    let mut system = system_to(&rt, 2000)?;
-    let begun = system.begin();
-    let put = put_in(&mut system, &mut region);
-    let kill = perform(&mut system, &mut region, 5, Op::KillCell { cell: 1 });
-    let removed = system.ready(rt.alloc(), 5)?;
+fn a_removal_is_freed_behind_its_commit(rt: HostRuntime) {
     let removal = Pending {
         key: 7,
         region: 1,
         undo: Undo::ReviveCell { cell: 1 },
     };
-    assert_eq!(rt;
-        (begun, put, kill, removed.as_slice()),
-        (
-            Ok((5, Receipt { number: 3 })),
-            Some(Ok(Receipt { number: 4 })),
-            Some(Ok(Receipt { number: 5 })),
-            [removal].as_slice()
-        )
-    );
-    let committed = commit(&mut system, 5);
-    let freed = free(&mut system, &mut region, 5);
     // the cell is free, and the solo had a number of its own
-    let left = (region.words()[8], system.next());
     assert_eq!(rt;
-        (committed, freed, left, system.ended(5)),
-        (
-            Some(Ok(Receipt { number: 6 })),
-            Some(Ok(Receipt { number: 7 })),
-            (0, 7),
-            Ok(Receipt { number: 8 })
-        )
+        removed_and_freed(rt.alloc()),
+        Some((
+            (
+                Ok((5, Receipt { number: 3 })),
+                Some(Ok(Receipt { number: 4 })),
+                Some(Ok(Receipt { number: 5 })),
+                (1, Some(removal))
+            ),
+            (
+                Some(Ok(Receipt { number: 6 })),
+                Some(Ok(Receipt { number: 7 })),
+                (0, 7),
+                Ok(Receipt { number: 8 })
+            )
+        ))
     );
-    Ok(())
 }
 
-#[test]
-fn an_audit_is_noted(rt: HostRuntime) -> Result<()> {
-    let mut system = system_to(&rt, 100)?;
-    let full = SystemError::LogFull {
-        end: 100,
-        limit: 100,
-    };
+// The begin of an audit has a limit of 1 MiB more.
+fn audited(alloc: Global) -> Option<((Begun, Noted, Noted), u64, Option<Cause>)> {
+    let mut system = system_to(alloc, 100)?;
     let clean = Record::AuditClean { begin: 3 };
-    // the begin of an audit has a limit of 1 MiB more
     let noted = (
         system.begin(),
         system.note(&Record::AuditBegin),
         system.note(&clean),
     );
+    Some((noted, system.end(), system.stopped()))
+}
+
+#[test]
+fn an_audit_is_noted(rt: HostRuntime) {
+    let full = SystemError::LogFull {
+        end: 100,
+        limit: 100,
+    };
     assert_eq!(rt;
-        (noted, system.end(), system.stopped()),
-        (
+        audited(rt.alloc()),
+        Some((
             (
                 Err(full),
                 Ok(Receipt { number: 3 }),
@@ -416,7 +543,6 @@ fn an_audit_is_noted(rt: HostRuntime) -> Result<()> {
             ),
             110,
             None
-        )
+        ))
     );
-    Ok(())
 }

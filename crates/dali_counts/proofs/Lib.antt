@@ -5,3 +5,4 @@ pub mod SmallLogs
 pub mod Fronts
 pub mod ShortLogs
 pub mod LightLogs
+pub mod Begins

@@ -163,16 +163,7 @@ first s (Format i m) g n r = of_kept _ (passes rules_start (Format i m)) g (λ k
     none : sum_below (λ t. left_of (txn_state s t (Format i m ∷ []))) n ≡ 0
     none = sum_none (λ t. left_of (txn_state s t (Format i m ∷ []))) n (λ t. refl)
 first s (Begin t) g n r = absurd (cc)
-first s (Forward t b) g n r = absurd (cc)
-first s (Done t c a) g n r = absurd (cc)
-first s (Commit t) g n r = absurd (cc)
-first s (Ended t) g n r = absurd (cc)
-first s (Solo t p b) g n r = absurd (cc)
-first s AuditBegin g n r = absurd (cc)
-first s (AuditClean b) g n r = absurd (cc)
-first s (AuditFail b rs) g n r = absurd (cc)
-first s (Restarted rs ds) g n r = absurd (cc)
-first s (Back t b) g n r = absurd (cc)
+first s _ g n r = absurd (cc)
 
 -- ---- all of it
 abbrev Light : Sizes → List Record → Type 0

@@ -17,7 +17,7 @@ use Rattle.dali_record.specs.declared.operations.Op.TheVariants.{Put, Change}
 use Rattle.dali_record.specs.declared.operations.Outcome.{Outcome}
 use Rattle.dali_record.specs.declared.operations.Outcome.TheVariants.{Value}
 use Rattle.dali_record.specs.declared.operations.Undo.{Undo}
-use Rattle.dali_record.specs.declared.operations.Undo.TheVariants.{FreeCell as UndoFreeCell, ReviveCell as UndoReviveCell, Restore as UndoRestore, FreeEntry as UndoFreeEntry, ReviveEntry as UndoReviveEntry}
+use Rattle.dali_record.specs.declared.operations.Undo.TheVariants.{FreeCell as UndoFreeCell}
 use Rattle.dali_record.specs.declared.records.Call.{Call}
 use Rattle.dali_record.specs.declared.records.Call.TheVariants.{Insert, Update, Delete, Get}
 use Rattle.dali_record.specs.declared.records.Answer.{Answer}
@@ -53,12 +53,8 @@ outcome_most (Value v) is = omega (arith, size_most v is)
 outcome_most _ is = omega arith
 
 pub undo_most : (o : Option Undo) → undo_length o ≤ 50
-undo_most None = omega arith
 undo_most (Some (UndoFreeCell c)) = omega arith
-undo_most (Some (UndoReviveCell c)) = omega arith
-undo_most (Some (UndoRestore c n vs)) = omega arith
-undo_most (Some (UndoFreeEntry e)) = omega arith
-undo_most (Some (UndoReviveEntry e)) = omega arith
+undo_most _ = omega arith
 
 call_most : (c : Call) → IsCall c → call_length c ≤ 50
 call_most (Insert k v) is = omega (arith, size_most v is.1)
@@ -91,17 +87,7 @@ regions_most n (m ∷ rs) up all = omega (arith, below_most n m rs up all)
 pub begun_most : (E : List Record) → length (begun E) ≤ length E
 begun_most [] = omega arith
 begun_most (Begin t ∷ E) = omega (arith, begun_most E)
-begun_most (Format i h ∷ E) = omega (arith, begun_most E)
-begun_most (Forward t b ∷ E) = omega (arith, begun_most E)
-begun_most (Done t c a ∷ E) = omega (arith, begun_most E)
-begun_most (Commit t ∷ E) = omega (arith, begun_most E)
-begun_most (Ended t ∷ E) = omega (arith, begun_most E)
-begun_most (Solo t p b ∷ E) = omega (arith, begun_most E)
-begun_most (AuditBegin ∷ E) = omega (arith, begun_most E)
-begun_most (AuditClean b ∷ E) = omega (arith, begun_most E)
-begun_most (AuditFail b rs ∷ E) = omega (arith, begun_most E)
-begun_most (Restarted rs ds ∷ E) = omega (arith, begun_most E)
-begun_most (Back t b ∷ E) = omega (arith, begun_most E)
+begun_most (_ ∷ E) = omega (arith, begun_most E)
 
 rolled_most : (e : Epoch) → length (rolled_list e) ≤ length e.records
 rolled_most e = omega (arith, begun_most e.records, length_filter (λ t. not (has (committed e.records) t) && not (has (ended e.records) t)) (begun e.records))

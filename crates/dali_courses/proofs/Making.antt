@@ -8,7 +8,7 @@ use Rattle.dali_system.specs.Passes.{Audits}
 use Rattle.dali_system.specs.Regions.{RegionStep, Poke}
 use Rattle.dali_system.specs.Courses.{Step, Operates, TakesBack, Frees, Answers, Commits, Ends, Locks, OnRegion, AuditsBy, IsStep}
 use Rattle.dali_crash.specs.Unpoked.{is_poke, pokes}
-use Rattle.dali_single.specs.Operated.{IsOwn}
+use Rattle.dali_calls.specs.Operating.{IsOwn}
 use Rattle.dali_single.specs.Single.{IsOwnStep, Leads}
 use Rattle.dali_courses.specs.Alone.{moment, Makes, OwnStepsAreACourse, AnswerEndsACourse, AbortEndsACourse, SettlingEndsACourse}
 

@@ -1,7 +1,7 @@
 -- The worked checkpoint: each premise of each step is met.
-use Rattle.std.proofs.Common.{◌≡◌, ℕ, zero, suc, ◌<◌, true, false, List, [], ◌∷◌, ◌++◌, Some, None, refl, ap, sym, inl, arith, take}
-use Rattle.std.specs.Prelude.{◌&&◌, not, replicate}
-use Rattle.dali_geometry.specs.Places.{formatted_image}
+use Rattle.std.proofs.Common.{◌≡◌, ℕ, zero, suc, ◌<◌, ◌≤◌, true, false, List, [], ◌∷◌, ◌++◌, Some, None, refl, ap, sym, inl, arith, take}
+use Rattle.std.specs.Prelude.{◌&&◌, not, replicate, slice_get}
+use Rattle.dali_geometry.specs.Places.{regions, formatted_image}
 use Rattle.dali_record.specs.declared.records.Record.TheVariants.{Begin, Commit, Ended, AuditBegin, AuditClean}
 use Rattle.dali_record.specs.Damage.{has}
 use Rattle.dali_record.specs.Legal.{Rules}
@@ -11,7 +11,7 @@ use Rattle.dali_region.specs.State.{RegionState, loaded, checked}
 use Rattle.dali_region.specs.Answers.{cleaned}
 use Rattle.dali_system.specs.Steps.{begun, commit_logged, ended_logged, audit_begun, audit_ended, taken}
 use Rattle.dali_att.specs.declared.state.State.TheVariants.{Live, Committed}
-use Rattle.dali_system.specs.State.{state_of}
+use Rattle.dali_system.specs.State.{state_of, stable}
 use Rattle.dali_system.specs.Passes.{audits_with, has_passed, has_found, IsVerdict}
 use Rattle.dali_system.specs.Keeps.{with_system, with_region, IsFree}
 use Rattle.dali_system.specs.Audits.{IsAuditing, MayLogEnd}
@@ -19,7 +19,7 @@ use Rattle.dali_system.specs.Flushes.{with_vault, longer, frame_of}
 use Rattle.dali_system.specs.Courses.{Begins, Commits, Ends, AuditBegins, AuditEnds, Passes, Takes, Flushes, Step, Moment}
 use Rattle.dali_system.specs.ImageSteps.{told_with}
 use Rattle.dali_system.specs.Worked.{small, first_log, first_vault, first_files, formatted_files}
-use Rattle.dali_crash.specs.Checkpoints.{Copy, Point, Does, Starts, Keeps, copy_at, Copies, WritesHead, Syncs, Turns, Finishes, target, head_now, head_with, synced_with, copies_with, copies_after, IsCertified, MayTurn, IsPointStep, with_current, with_flag, Came, IsTurnedFrom, StoreStep, Traced, moment_of}
+use Rattle.dali_crash.specs.Checkpoints.{Head, Copy, Point, Does, Starts, Keeps, copy_at, Copies, WritesHead, Syncs, Turns, Finishes, target, head_now, head_with, synced_with, copies_with, copies_after, IsCertified, MayTurn, IsPointStep, with_current, with_flag, Came, IsTurnedFrom, StoreStep, Traced, moment_of}
 use Rattle.dali_crash.specs.Checkpointed.{new_head, checkpoint_start, checkpoint_steps, WorkedCheckpoint, batches_2, batches_3, checkpoint_from, moved_files}
 use Rattle.dali_crash.proofs.Starts.{lawful}
 use Rattle.dali_crash.proofs.Courses.{format_is_history}
@@ -205,16 +205,28 @@ step_16 = (refl, ((refl, (refl, refl)), refl), refl)
 pub step_17 : IsPointStep m16 Syncs m17
 step_17 = (record { runs = refl; under_way = refl }, refl)
 
-pub may : MayTurn m17 new_head 4 5
-may = record {
-  begun = refl;
-  head = refl;
-  synced = refl;
-  clean = refl;
-  ends = omega arith;
-  flushed = omega arith;
-  copies = both_below_two (λ r. (c : Copy) × (m17.copies (target m17) r ≡ Some c) × IsCertified new_head 4 c) (record { at = 4; passed = true }, refl, record { since = omega arith; until = omega arith; passed = refl }) (record { at = 4; passed = true }, refl, record { since = omega arith; until = omega arith; passed = refl });
+-- of two regions, each with its place brought up to date where the audit began
+pub may_turn :
+    (p : Point) (h : Head) (b k : ℕ) → p.begun ≡ Some h → p.heads (target p) ≡ h → p.synced (target p) ≡ true
+    → slice_get p.log k ≡ Some (AuditClean b) → b ≤ k → k < stable p.core
+    → regions p.core.system.sizes ≡ 2 → h.first ≤ b
+    → p.copies (target p) 0 ≡ Some (record { at = b; passed = true }) → p.copies (target p) 1 ≡ Some (record { at = b; passed = true })
+    → MayTurn p h b k
+may_turn p h b k begun head synced clean ends flushed two since first second = record {
+  begun = begun;
+  head = head;
+  synced = synced;
+  clean = clean;
+  ends = ends;
+  flushed = flushed;
+  copies = λ r w. both_below_two (λ r. (c : Copy) × (p.copies (target p) r ≡ Some c) × IsCertified h b c) (record { at = b; passed = true }, first, certified) (record { at = b; passed = true }, second, certified) r (omega (arith, two, w));
 }
+  where
+    certified : IsCertified h b (record { at = b; passed = true })
+    certified = record { since = since; until = omega arith; passed = refl }
+
+pub may : MayTurn m17 new_head 4 5
+may = may_turn m17 new_head 4 5 refl refl refl refl (omega arith) (omega arith) refl (omega arith) refl refl
 
 step_18 : IsPointStep m17 Turns m18
 step_18 = (new_head, 4, 5, record { runs = refl; under_way = refl }, may, refl)

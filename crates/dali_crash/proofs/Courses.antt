@@ -1,20 +1,21 @@
--- The base of the last epoch, along any steps of a core.
+-- The base of the last epoch, along any steps of a core; and the log, along a flush.
 use Rattle.std.proofs.Common.{◌≡◌, ℕ, ◌<◌, List, [], ◌∷◌, ◌++◌, Some, refl, ap, sym, subst, ◌∙◌, ⊎_elim, arith, true}
 use Rattle.std.specs.Prelude.{slice_get, fold}
 use Rattle.dali_geometry.specs.Sizes.{Sizes}
 use Rattle.dali_geometry.specs.Places.{formatted_image}
 use Rattle.dali_record.specs.declared.records.Record.{Record}
-use Rattle.dali_record.specs.declared.records.Record.TheVariants.{Format, Begin, Forward, Done, Commit, Ended, Solo, AuditBegin, AuditClean, AuditFail, Restarted, Back}
+use Rattle.dali_record.specs.declared.records.Record.TheVariants.{Format}
 use Rattle.dali_record.specs.Epochs.{Epoch, Cut, cut}
 use Rattle.dali_record.specs.Legal.{sizes_of}
 use Rattle.dali_record.proofs.Pushes.{cut_push}
 use Rattle.dali_history.specs.Recovered.{recover, AreHonest}
 use Rattle.dali_system.specs.Run.{Bases}
 use Rattle.dali_system.specs.Loads.{IsAtRest}
-use Rattle.dali_system.specs.Courses.{Moment}
+use Rattle.dali_system.specs.Courses.{Takes, Flushes, Moment}
 use Rattle.dali_system.proofs.OneMore.{is_inside, step_inside}
 use Rattle.dali_system.proofs.Loads.{format_rests}
 use Rattle.dali_system.proofs.Courses.{Goes, step_goes}
+use Rattle.dali_crash.specs.Checkpoints.{Point, Does, IsPointCourse}
 use Rattle.dali_crash.specs.Restarts.{HasRightBase, CourseKeepsTheBase, FormatIsHistory}
 use Rattle.dali_crash.proofs.Restarts.{some_sizes}
 
@@ -56,18 +57,12 @@ format_is_history s fits =
 pub format_of : (L : List Record) → 0 < (sizes_of L).index → slice_get L 0 ≡ Some (Format (sizes_of L).index (sizes_of L).heap)
 format_of [] h = absurd (omega (arith, h))
 format_of (Format i n ∷ L) h = refl
-format_of (Begin t ∷ L) h = absurd (omega (arith, h))
-format_of (Forward t b ∷ L) h = absurd (omega (arith, h))
-format_of (Done t c a ∷ L) h = absurd (omega (arith, h))
-format_of (Commit t ∷ L) h = absurd (omega (arith, h))
-format_of (Ended t ∷ L) h = absurd (omega (arith, h))
-format_of (Solo t p b ∷ L) h = absurd (omega (arith, h))
-format_of (AuditBegin ∷ L) h = absurd (omega (arith, h))
-format_of (AuditClean b ∷ L) h = absurd (omega (arith, h))
-format_of (AuditFail b rs ∷ L) h = absurd (omega (arith, h))
-format_of (Restarted rs ds ∷ L) h = absurd (omega (arith, h))
-format_of (Back t b ∷ L) h = absurd (omega (arith, h))
+format_of _ h = absurd (omega (arith, h))
 
 pub honest_before : (s : Sizes) (base : List (List ℕ)) (es : List Epoch) (e : Epoch) → AreHonest s base (es ++ e ∷ []) → AreHonest s base es
 honest_before s base [] e h = tt
 honest_before s base (d ∷ es) e h = (h.0, honest_before s (recover s base d) es e h.1)
+
+-- ---- a flush logs nothing
+pub flush_logs_none : (p q : Point) → IsPointCourse p (Does Takes ∷ Does Flushes ∷ []) q → q.log ≡ p.log
+flush_logs_none p q c = ap (λ (x : Point). x.log) (sym c.2.2) ∙ (c.2.1.1.0.1.0 ∙ c.1.1.0.0)

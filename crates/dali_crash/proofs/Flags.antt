@@ -140,34 +140,33 @@ kept_stays st new Finishes h e s = inr (ap (λ (z : Point). z.begun) s.1)
 kept_stays st new _ h e s = inl (ap (λ (z : Point). z.begun) s.1 ∙ e)
 
 -- ---- what is synced
--- the place of one region, or the head, of the target is written
-place_left : (st old : Point) (side : Side) (r : ℕ) (ws : List ℕ) → old.told ≡ told_with st.told (target st) r ws → old.heads ≡ st.heads → old.synced ≡ synced_with st.synced (target st) false → old.synced side ≡ true → IsLeft st old side
-place_left st old side r ws told heads synced e = by_test (same_side side (target st)) refl
+-- something of the target is written: the other side is left
+other_left :
+    (st old : Point) (side : Side) → old.synced ≡ synced_with st.synced (target st) false → old.synced side ≡ true
+    → (same_side side (target st) ≡ false → (r : ℕ) → old.told side r ≡ st.told side r)
+    → (same_side side (target st) ≡ false → old.heads side ≡ st.heads side)
+    → IsLeft st old side
+other_left st old side synced e told head = by_test (same_side side (target st)) refl
   where
     here : synced_with st.synced (target st) false side ≡ true
     here = sym (ap (λ (f : Side → Bool). f side) synced) ∙ e
 
     by_test : (b : Bool) → same_side side (target st) ≡ b → IsLeft st old side
     by_test true f = let w : false ≡ true = ap (λ z. cond z false (st.synced side)) (sym f) ∙ here in absurd (cc)
-    by_test false f = record {
-      synced = ap (λ z. cond z false (st.synced side)) (sym f) ∙ here;
-      told = λ q. ap (λ (t : Side → ℕ → List ℕ). t side q) told ∙ ap (λ z. cond (z && (q == r)) ws (st.told side q)) f;
-      head = ap (λ (k : Side → Head). k side) heads;
-    }
+    by_test false f = record { synced = ap (λ z. cond z false (st.synced side)) (sym f) ∙ here; told = told f; head = head f }
+
+-- the place of one region, or the head
+place_left : (st old : Point) (side : Side) (r : ℕ) (ws : List ℕ) → old.told ≡ told_with st.told (target st) r ws → old.heads ≡ st.heads → old.synced ≡ synced_with st.synced (target st) false → old.synced side ≡ true → IsLeft st old side
+place_left st old side r ws told heads synced e =
+    other_left st old side synced e
+    (λ f q. ap (λ (t : Side → ℕ → List ℕ). t side q) told ∙ ap (λ z. cond (z && (q == r)) ws (st.told side q)) f)
+    (λ f. ap (λ (k : Side → Head). k side) heads)
 
 head_left : (st old : Point) (side : Side) (h : Head) → old.told ≡ st.told → old.heads ≡ head_with st.heads (target st) h → old.synced ≡ synced_with st.synced (target st) false → old.synced side ≡ true → IsLeft st old side
-head_left st old side h told heads synced e = by_test (same_side side (target st)) refl
-  where
-    here : synced_with st.synced (target st) false side ≡ true
-    here = sym (ap (λ (f : Side → Bool). f side) synced) ∙ e
-
-    by_test : (b : Bool) → same_side side (target st) ≡ b → IsLeft st old side
-    by_test true f = let w : false ≡ true = ap (λ z. cond z false (st.synced side)) (sym f) ∙ here in absurd (cc)
-    by_test false f = record {
-      synced = ap (λ z. cond z false (st.synced side)) (sym f) ∙ here;
-      told = λ q. ap (λ (t : Side → ℕ → List ℕ). t side q) told;
-      head = ap (λ (k : Side → Head). k side) heads ∙ ap (λ z. cond z h (st.heads side)) f;
-    }
+head_left st old side h told heads synced e =
+    other_left st old side synced e
+    (λ f q. ap (λ (t : Side → ℕ → List ℕ). t side q) told)
+    (λ f. ap (λ (k : Side → Head). k side) heads ∙ ap (λ z. cond z h (st.heads side)) f)
 
 same_left : (st old : Point) (side : Side) → old.told ≡ st.told → old.heads ≡ st.heads → old.synced ≡ st.synced → old.synced side ≡ true → IsLeft st old side
 same_left st old side told heads synced e = record {

@@ -1,15 +1,13 @@
 -- From a run in which no damage escapes, the last epoch is honest.
 use Rattle.std.proofs.Common.{◌≡◌, ℕ, ◌+◌, ◌-◌, ◌<◌, ◌≤◌, Bool, true, false, cond, List, [], ◌∷◌, ◌++◌, take, drop, Option, Some, None, refl, ap, sym, subst, ◌∙◌, inl, inr, ⊎_elim, arith}
-use Rattle.std.specs.Prelude.{IsSome, ◌==◌, slice_get, fold, nat_lt, nat_le}
+use Rattle.std.specs.Prelude.{IsSome, ◌==◌, slice_get, fold}
 use Rattle.std.proofs.lemmas.List.{take-append-drop, take-take}
 use Rattle.std.proofs.lemmas.List.Sums.{fold-append}
-use Rattle.std.proofs.lemmas.Bool.{cases_lt, ltb-true}
+use Rattle.std.proofs.lemmas.Bool.{cases_lt}
 use Rattle.dali_lists.proofs.Lists.{get_within, get_take, length_take}
 use Rattle.dali_lists.proofs.Tests.{left_true, right_true}
 use Rattle.dali_geometry.specs.Sizes.{Sizes}
-use Rattle.dali_geometry.specs.Places.{regions, is_index, is_heap}
-use Rattle.dali_record.specs.declared.operations.Op.{Op}
-use Rattle.dali_record.specs.declared.operations.Op.TheVariants.{Look, Add, KillEntry, FreeEntry, ReviveEntry}
+use Rattle.dali_geometry.specs.Places.{regions}
 use Rattle.dali_record.specs.declared.operations.Block.{Block}
 use Rattle.dali_record.specs.declared.records.Record.{Record}
 use Rattle.dali_record.specs.declared.records.Record.TheVariants.{Format, Begin, Forward, Done, Commit, Ended, Solo, AuditBegin, AuditClean, AuditFail, Restarted, Back}
@@ -20,6 +18,7 @@ use Rattle.dali_record.specs.Legal.{Rules, rules_state, rules_next, rules_first,
 use Rattle.dali_record.proofs.Ends.{by_push}
 use Rattle.dali_record.proofs.Pushes.{touch_push_cases, touch_within, rules_state_push, cut_push}
 use Rattle.dali_record.proofs.Batches.{clean_grows}
+use Rattle.dali_record.proofs.EpochRules.{kind_in}
 use Rattle.dali_region.specs.State.{RegionState}
 use Rattle.dali_history.proofs.ByEpochs.{next_from}
 use Rattle.dali_system.specs.Run.{base_at, RegionRun, blocks_on}
@@ -39,27 +38,13 @@ clean_cut m e =
 abbrev InRange : Sizes → Record → Type 0
 InRange s x = (a : Touch) → touch_of x ≡ Some a → a.block.region < regions s
 
-index_within : (s : Sizes) (r : ℕ) → is_index s r ≡ true → r < regions s
-index_within s r e = omega (arith, ltb-true r s.index e)
-
-heap_within : (s : Sizes) (r : ℕ) → is_heap s r ≡ true → r < regions s
-heap_within s r e = ltb-true r (regions s) (right_true (nat_le s.index r) (nat_lt r (regions s)) e)
-
-kind_within : (s : Sizes) (r : ℕ) (o : Op) → on_kind s r o ≡ true → r < regions s
-kind_within s r Look e = index_within s r e
-kind_within s r (Add p) e = index_within s r e
-kind_within s r (KillEntry n) e = index_within s r e
-kind_within s r (FreeEntry n) e = index_within s r e
-kind_within s r (ReviveEntry n) e = index_within s r e
-kind_within s r _ e = heap_within s r e
-
 of_block : (s : Sizes) (t p : ℕ) (b : Block) → b.region < regions s → (a : Touch) → Some (record { txn = t; owner = p; block = b }) ≡ Some a → a.block.region < regions s
 of_block s t p b h a e = let same : record { txn = t; owner = p; block = b } ≡ a = cc in subst (λ (q : Touch). q.block.region < regions s) same h
 
 ran_within : (s : Sizes) (g : Rules) (x : Record) → IsSome (runs s g x) → InRange s x
-ran_within s g (Forward t b) k a e = of_block s t t b (kind_within s b.region b.op (left_true (on_kind s b.region b.op) (has_room g (Forward t b)) (if_kept _ _ k))) a e
-ran_within s g (Solo t p b) k a e = of_block s t p b (kind_within s b.region b.op (right_true (t == g.next) (on_kind s b.region b.op) (if_kept _ _ k))) a e
-ran_within s g (Back t b) k a e = of_block s t t b (kind_within s b.region b.op (if_kept _ _ k)) a e
+ran_within s g (Forward t b) k a e = of_block s t t b (kind_in s b.region b.op (left_true (on_kind s b.region b.op) (has_room g (Forward t b)) (if_kept _ _ k))) a e
+ran_within s g (Solo t p b) k a e = of_block s t p b (kind_in s b.region b.op (right_true (t == g.next) (on_kind s b.region b.op) (if_kept _ _ k))) a e
+ran_within s g (Back t b) k a e = of_block s t t b (kind_in s b.region b.op (if_kept _ _ k)) a e
 ran_within s g _ k a e = absurd (cc)
 
 behind_within : (s : Sizes) (g : Rules) (x : Record) → IsSome (rules_behind s g x) → InRange s x

@@ -1,18 +1,17 @@
 -- What a checkpoint kept, and what is known of places in image files, goes on to hold.
-use Rattle.std.proofs.Common.{◌≡◌, ℕ, ◌+◌, ◌-◌, ◌<◌, ◌≤◌, Bool, true, false, List, [], ◌∷◌, ◌++◌, length, take, Some, ap, sym, subst, ◌∙◌, ◌⊎◌, inl, inr, ⊎_elim, arith}
-use Rattle.std.specs.Prelude.{◌^◌, ◌||◌, map, filter, not, slice_get, flat_map, sum_by}
+use Rattle.std.proofs.Common.{◌≡◌, ℕ, ◌+◌, ◌-◌, ◌≤◌, Bool, true, false, List, [], ◌∷◌, ◌++◌, length, take, ap, sym, subst, ◌∙◌, ◌⊎◌, inl, inr, ⊎_elim, arith}
+use Rattle.std.specs.Prelude.{◌^◌, ◌||◌, map, filter, not, sum_by}
 use Rattle.std.specs.List.{list_any}
-use Rattle.std.proofs.lemmas.List.{length-append, take_all, take-append-le, length_push}
-use Rattle.std.proofs.lemmas.Bool.{cases_lt, or_cases}
+use Rattle.std.proofs.lemmas.List.{length-append, take-append-le, length_push}
+use Rattle.std.proofs.lemmas.Bool.{or_cases}
 use Rattle.dali_record.specs.declared.records.Record.{Record}
 use Rattle.dali_record.specs.Log.{begun, ended}
 use Rattle.dali_record.specs.Epochs.{separates, Epoch, last_epoch}
 use Rattle.dali_record.specs.Damage.{has}
 use Rattle.dali_record.specs.Spelling.{record_length}
 use Rattle.dali_record.specs.Settled.{words_in, redo_all}
-use Rattle.dali_record.specs.Files.{Files, batch_length, is_restarted_first, row_of, next_after, table_before}
-use Rattle.dali_record.proofs.Ends.{get_push_cases}
-use Rattle.dali_record.proofs.Batches.{first_of_plain, got_none, number_is_length}
+use Rattle.dali_record.specs.Files.{Files, row_of, next_after, table_before}
+use Rattle.dali_record.proofs.Batches.{first_of_plain, number_is_length, Placed, placed_still}
 use Rattle.dali_region.specs.State.{RegionState}
 use Rattle.dali_system.specs.State.{VaultState}
 use Rattle.dali_system.specs.Run.{Bases, log_in}
@@ -26,24 +25,6 @@ use Rattle.dali_crash.specs.StoreRuns.{IsSettledAt, IsCopied, IsPlace, IsKept}
 use Rattle.dali_crash.proofs.StepLeaves.{Onward}
 
 -- ---- the place with one batch more
-abbrev Placed : List (List Record) → ℕ → List Record → Type 0
-Placed bs place front =
-    (k : ℕ) × (flat_map (λ b. b) (take k bs) ≡ front) × (place ≡ sum_by batch_length (take k bs))
-    × ((j : ℕ) (b : List Record) → k ≤ j → slice_get bs j ≡ Some b → is_restarted_first b ≡ true)
-
-placed_within : (bs : List (List Record)) (B front : List Record) (place : ℕ) → is_restarted_first B ≡ true → (p : Placed bs place front) → p.0 ≤ length bs → Placed (bs ++ B ∷ []) place front
-placed_within bs B front place first p le =
-    let same : take p.0 (bs ++ B ∷ []) ≡ take p.0 bs = take-append-le p.0 bs (B ∷ []) le in
-    (p.0, ap (λ cs. flat_map (λ b. b) cs) same ∙ p.1, p.2 ∙ ap (λ cs. sum_by batch_length cs) (sym same), λ j b kj at. ⊎_elim (λ old. p.3 j b kj old.1) (λ new. subst (λ x. is_restarted_first x ≡ true) new.1 first) (get_push_cases bs B j b at))
-
-placed_still : (bs : List (List Record)) (B front : List Record) (place : ℕ) → is_restarted_first B ≡ true → Placed bs place front → Placed (bs ++ B ∷ []) place front
-placed_still bs B front place first p = ⊎_elim past (placed_within bs B front place first p) (cases_lt (length bs) p.0)
-  where
-    past : length bs < p.0 → Placed (bs ++ B ∷ []) place front
-    past lt =
-        let whole : take p.0 bs ≡ take (length bs) bs = take_all p.0 bs (omega (arith, lt)) ∙ sym (take_all (length bs) bs (omega arith)) in
-        placed_within bs B front place first (length bs, sym (ap (λ cs. flat_map (λ b. b) cs) whole) ∙ p.1, p.2 ∙ ap (λ cs. sum_by batch_length cs) whole, λ j b le at. absurd (got_none bs j b le at)) (omega arith)
-
 placed_frame : (bs : List (List Record)) (frame front : List Record) (place : ℕ) → list_any separates frame ≡ false → Placed bs place front → Placed (with_batch bs frame) place front
 placed_frame bs [] front place inside p = p
 placed_frame bs (r ∷ rs) front place inside p = placed_still bs (r ∷ rs) front place (first_of_plain (r ∷ rs) inside) p

@@ -2,9 +2,9 @@
 use Rattle.std.proofs.Common.{◌≡◌, ℕ, zero, suc, Bool, true, false, cond, List, [], ◌∷◌, ◌++◌, length, map, take, drop, Option, Some, None, refl, ap, sym, subst, ◌∙◌, arith, get_or}
 use Rattle.std.specs.Prelude.{◌==◌, ◌/◌, fold, reverse, replicate, slice_get, slice_set, zip}
 use Rattle.std.specs.List.{AllByRecursion}
-use Rattle.std.proofs.lemmas.List.{length-append, length-map, length-replicate, length-set, reverse-append}
+use Rattle.std.proofs.lemmas.List.{length-append, length-map, length-replicate, reverse-append}
 use Rattle.dali_lists.proofs.Members.{all_append}
-use Rattle.dali_words.specs.Words.{has_first, first_or, rest_of, write_under}
+use Rattle.dali_words.specs.Words.{has_first, first_or, rest_of, write_under, AllAreWords}
 use Rattle.dali_words.specs.Effects.{write_all}
 use Rattle.dali_geometry.specs.Sizes.{Sizes}
 use Rattle.dali_geometry.specs.Places.{formatted_image, regions}
@@ -26,8 +26,7 @@ use Rattle.dali_record.specs.Legal.{sizes_of}
 use Rattle.dali_history.specs.Recovered.{undo_into, roll_back, free_word, freed, losers, undos_left, recover, base_of, recovered, recovered_now}
 use Rattle.dali_history.specs.History.{AreSpelled}
 use Rattle.dali_words.proofs.Masks.{length-write_under}
-use Rattle.dali_history.proofs.Images.{length-undo}
-use Rattle.dali_system.specs.Run.{AllAreWords}
+use Rattle.dali_history.proofs.Images.{length-undo, length-free_words}
 
 -- ---- lists
 
@@ -255,11 +254,6 @@ recovered_fits s L spelled = by_records (cut L).now.records
     by_records [] = base
     by_records (r ∷ E) = recover_fits s (base_of s L) (cut L).now base epochs.1
 
-get_fits : (image : List (List ℕ)) (r : ℕ) (ws : List ℕ) → AreFit image → slice_get image r ≡ Some ws → (words_in image r ≡ ws) × Fit ws
-get_fits [] r ws h e = absurd (cc)
-get_fits (us ∷ image) zero ws h e = let same : us ≡ ws = cc in (same, subst Fit same h.0)
-get_fits (us ∷ image) (suc r) ws h e = get_fits image r ws h.1 e
-
 -- ---- lengths: each of these leaves as many regions of as many words
 abbrev shape : List (List ℕ) → List ℕ
 shape image = map length image
@@ -285,13 +279,6 @@ same_redo image _ = refl
 same_rolled : (image : List (List ℕ)) (us : List Pending) → shape (roll_back image us) ≡ shape image
 same_rolled image us = same_fold undo_into shape (λ z p. same_set z p.region _ (length-undo p.undo p.key (words_in z p.region))) (reverse us) image
 
-free_length : (ws : List ℕ) (i : ℕ) → length (free_word ws i) ≡ length ws
-free_length ws i = by_test (get_or ws i 0 == 2)
-  where
-    by_test : (c : Bool) → length (cond c (slice_set ws i 0) ws) ≡ length ws
-    by_test true = length-set ws i 0
-    by_test false = refl
-
 same_map : (f : List ℕ → List ℕ) → ((ws : List ℕ) → length (f ws) ≡ length ws) → (image : List (List ℕ)) → shape (map f image) ≡ shape image
 same_map f keeps [] = refl
 same_map f keeps (ws ∷ image) = ap (λ n. n ∷ shape (map f image)) (keeps ws) ∙ ap (λ l. length ws ∷ l) (same_map f keeps image)
@@ -303,8 +290,8 @@ same_parts f g keeps holds (suc n) (ws ∷ image) = ap (λ k. k ∷ shape (map f
 
 same_freed : (s : Sizes) (image : List (List ℕ)) → shape (freed s image) ≡ shape image
 same_freed s image = same_parts (λ ws. fold free_word ws (map entry.state_word entry.entries)) (λ ws. fold free_word ws (map cell.state_word cell.cells))
-    (λ ws. same_fold free_word length free_length (map entry.state_word entry.entries) ws)
-    (λ ws. same_fold free_word length free_length (map cell.state_word cell.cells) ws)
+    (length-free_words (map entry.state_word entry.entries))
+    (length-free_words (map cell.state_word cell.cells))
     s.index image
 
 same_recover : (s : Sizes) (base : List (List ℕ)) (e : Epoch) → shape (recover s base e) ≡ shape base
@@ -343,14 +330,12 @@ recovered_count s L =
     ∙ (length-map (formatted_image s) length
     ∙ omega (arith, length-append (replicate s.index (replicate {A = ℕ} 64 0)) (replicate s.heap (1 ∷ replicate 63 0)), length-replicate s.index (replicate {A = ℕ} 64 0), length-replicate s.heap (1 ∷ replicate {A = ℕ} 63 0))))
 
-long_at : (image : List (List ℕ)) (r : ℕ) (ws : List ℕ) → Long (shape image) → slice_get image r ≡ Some ws → length ws ≡ 64
-long_at [] r ws h e = absurd (cc)
-long_at (us ∷ image) zero ws h e = let same : us ≡ ws = cc in ap length (sym same) ∙ h.0
-long_at (us ∷ image) (suc r) ws h e = long_at image r ws h.1 e
+each_fits : (image : List (List ℕ)) → Long (shape image) → AreFit image → AllAreWords image
+each_fits [] long fits = tt
+each_fits (ws ∷ image) long fits = ((long.0, fits.0), each_fits image long.1 fits.1)
 
 pub recovered_words : (L : List Record) → AreSpelled L → AllAreWords (recovered (sizes_of L) L)
-recovered_words L spelled r ws e =
-    let image : List (List ℕ) = recovered (sizes_of L) L in
+recovered_words L spelled =
     let s : Sizes = sizes_of L in
     let long : Long (shape (formatted_image s)) = alike_long s.index (replicate 64 0) (replicate s.heap (1 ∷ replicate 63 0)) refl (only_long s.heap (1 ∷ replicate 63 0) refl) in
-    (long_at image r ws (subst Long (sym (same_recovered s L)) long) e, (get_fits image r ws (recovered_fits s L (all_spelled L spelled)) e).1)
+    each_fits (recovered s L) (subst Long (sym (same_recovered s L)) long) (recovered_fits s L (all_spelled L spelled))

@@ -8,7 +8,7 @@ use Rattle.dali_record.specs.declared.operations.Op.TheVariants.{Look, Put, Add}
 use Rattle.dali_record.specs.declared.records.Call.TheVariants.{Insert}
 use Rattle.dali_record.specs.declared.records.Answer.TheVariants.{Ok as AnswerOk}
 use Rattle.dali_record.specs.declared.records.Record.TheVariants.{Begin, Forward, Done, Commit, Ended, Restarted}
-use Rattle.dali_record.specs.Blocks.{AreWords}
+use Rattle.dali_words.specs.Words.{AreWords}
 use Rattle.dali_record.specs.Spelling.{IsBlock}
 use Rattle.dali_record.specs.Legal.{sizes_of}
 use Rattle.dali_record.specs.Files.{Files}

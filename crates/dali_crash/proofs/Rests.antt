@@ -8,10 +8,10 @@ use Rattle.dali_record.specs.declared.records.Record.TheVariants.{Format, Begin,
 use Rattle.dali_record.specs.Log.{last_of}
 use Rattle.dali_record.specs.Epochs.{Epoch, Cut, next_number, cut_step, cut, last_epoch, recovered_or, recovered_epoch}
 use Rattle.dali_record.specs.Files.{is_epoch_for}
-use Rattle.dali_record.specs.Legal.{sizes_of, Rules, rules_next, rules_state}
+use Rattle.dali_record.specs.Legal.{sizes_of, Rules, rules_state}
 use Rattle.dali_record.proofs.Ends.{by_push, last_of_push}
-use Rattle.dali_record.proofs.Pushes.{cut_push, rules_state_push}
-use Rattle.dali_record.proofs.EpochRules.{format_first}
+use Rattle.dali_record.proofs.Pushes.{cut_push}
+use Rattle.dali_record.proofs.EpochRules.{format_first, rules_before}
 use Rattle.dali_record.proofs.Batches.{number_is_length}
 use Rattle.dali_crash.proofs.Fitting.{found_is}
 use Rattle.dali_crash.specs.Traces.{FitsAtLast}
@@ -23,10 +23,6 @@ IsLinked c = (c.closed ≡ []) ⊎ ((d : Epoch) × (last_of c.closed ≡ Some d)
 abbrev Links : Sizes → List Record → Type 0
 Links s L = (g : Rules) → rules_state s L ≡ Some g → IsLinked (cut L)
 
-one_before : (s : Sizes) (o : Option Rules) (x : Record) (g : Rules) → rules_next s o x ≡ Some g → (h : Rules) × (o ≡ Some h)
-one_before s None x g e = absurd (cc)
-one_before s (Some h) x g e = (h, refl)
-
 links : (s : Sizes) (L : List Record) → Links s L
 links s = by_push (Links s) (λ g e. inl refl) step
   where
@@ -34,7 +30,7 @@ links s = by_push (Links s) (λ g e. inl refl) step
     step L x before g e = subst IsLinked (sym (cut_push L x)) (by_record x e (before was.0 was.1))
       where
         was : (h : Rules) × (rules_state s L ≡ Some h)
-        was = one_before s (rules_state s L) x g (sym (rules_state_push s L x) ∙ e)
+        was = let before = rules_before s L x g e in (before.0, before.1)
 
         by_record : (r : Record) → rules_state s (L ++ r ∷ []) ≡ Some g → IsLinked (cut L) → IsLinked (cut_step (cut L) r)
         by_record (Format i h) f w = inl (ap (λ M. (cut M).closed) (format_first s L i h g f))

@@ -48,7 +48,7 @@ pub no_rows : (b : ℕ) → [] ≡ map (row_of (take b [])) (filter (λ t. not (
 no_rows b = ap (λ P. map (row_of P) (filter (λ t. not (has (ended P) t)) (begun P))) (sym (take_none b))
 
 -- ---- after a format
-formatted_fits : (s : Sizes) (bases : Bases) (missed : ℕ → Bool) (F : Files) → IsFormatted s F → bases 1 ≡ formatted_image s → length (formatted_image s) ≡ regions s → FitsBut s bases missed (Format s.index s.heap ∷ []) F (last_epoch (Format s.index s.heap ∷ []))
+pub formatted_fits : (s : Sizes) (bases : Bases) (missed : ℕ → Bool) (F : Files) → IsFormatted s F → bases 1 ≡ formatted_image s → length (formatted_image s) ≡ regions s → FitsBut s bases missed (Format s.index s.heap ∷ []) F (last_epoch (Format s.index s.heap ∷ []))
 formatted_fits s bases missed F is base whole = record {
   log = ap (λ bs. flat_map (λ b. b) bs) is.batches;
   batch = (

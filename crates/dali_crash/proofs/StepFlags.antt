@@ -8,7 +8,7 @@ use Rattle.dali_region.specs.declared.Side.TheVariants.{A, B}
 use Rattle.dali_region.specs.State.{RegionState, touched, checked, wrote}
 use Rattle.dali_region.specs.Answers.{is_dirty}
 use Rattle.dali_system.specs.State.{CoreState}
-use Rattle.dali_system.specs.Regions.{RegionStep, Latch, NoteReads, Update, TakeBack, Poke, Check, Die, Clean, region_after}
+use Rattle.dali_system.specs.Regions.{RegionStep, TakeBack, Check, Die, Clean, region_after}
 use Rattle.dali_system.specs.ImageSteps.{clears}
 use Rattle.dali_system.specs.Courses.{Step, Begins, Operates, TakesBack, Frees, Answers, AuditEnds, OnRegion, Passes, Dies, Claims, GivesBack, Recovers, Stops, Checkpoints, Takes, Flushes, Faults, ReadFails, Moment, IsStepAt}
 use Rattle.dali_system.proofs.Deaths.{region_with, dead_at}
@@ -35,21 +35,9 @@ after_touch g A c = (or_parts g.dirty_a (wrote g) c).0
 after_touch g B c = (or_parts g.dirty_b (wrote g) c).0
 
 after : (x : RegionStep) (g : RegionState) → clears x ≡ false → WasClear g (region_after x g)
-after (Latch t) g quiet A c = c
-after (Latch t) g quiet B c = c
-after (NoteReads m) g quiet A c = c
-after (NoteReads m) g quiet B c = c
-after (Update i v) g quiet A c = c
-after (Update i v) g quiet B c = c
-after TakeBack g quiet A c = c
-after TakeBack g quiet B c = c
-after (Poke i m) g quiet A c = c
-after (Poke i m) g quiet B c = c
-after Check g quiet A c = c
-after Check g quiet B c = c
-after Die g quiet A c = c
-after Die g quiet B c = c
 after (Clean t) g quiet side c = absurd (cc)
+after _ g quiet A c = c
+after _ g quiet B c = c
 
 abbrev regions_of : CoreState → List RegionState
 regions_of c = c.regions

@@ -3,7 +3,6 @@ use Rattle.std.proofs.Common.{◌≡◌, ℕ, zero, suc, ◌+◌, ◌*◌, ◌%�
 use Rattle.std.specs.Prelude.{◌==◌, ◌^◌, ◌&&◌, ◌||◌, not, slice_get, slice_set, flat_map, sum_by}
 use Rattle.std.specs.List.{range_with_len}
 use Rattle.std.proofs.lemmas.List.{length-map, take_all, length-take-le}
-use Rattle.std.proofs.lemmas.List.Elements.{recursion_from_All}
 use Rattle.std.proofs.lemmas.List.FromFn.{length-range_with_len, get_or-map-range_with_len}
 use Rattle.std.proofs.lemmas.Bool.{eqb-true, eq-eqb}
 use Rattle.dali_lists.proofs.Lists.{set_cases, get_within}
@@ -28,13 +27,13 @@ use Rattle.dali_system.specs.Flushes.{faulted, frame_of, with_frame}
 use Rattle.dali_system.specs.Courses.{Step, OnRegion, Checkpoints, Flushes, Faults, Moment, IsStepAt, RunsAt}
 use Rattle.dali_system.specs.Images.{Told, FilesRun, FitsBut, is_missed, ImageRun}
 use Rattle.dali_system.specs.ImageSteps.{same_side, told_with}
-use Rattle.dali_system.proofs.Courses.{Goes, step_goes, LeavesBy, fewer, step_keeps_none, step_runs, runs_on}
+use Rattle.dali_system.proofs.Courses.{Goes, step_goes, LeavesBy, fewer, step_keeps_none, step_runs, run_less, runs_on}
 use Rattle.dali_system.proofs.Flushes.{risen_since, no_less, fault_keeps}
 use Rattle.dali_record.specs.declared.records.Record.TheVariants.{Format}
 use Rattle.dali_system.proofs.FlushedImages.{frame_inside, faulted_images, flushed_images}
 use Rattle.dali_crash.specs.Checkpoints.{Head, Copy, Point, Does, Starts, Keeps, IsUntouched, copy_at, Copies, Skips, WritesHead, Syncs, Turns, CopyFails, HeadFails, SyncFails, TurnFails, Finishes, side_of, image_side, target, copies_with, head_now, pass_copy, passes_region, copies_after, is_of_checkpoint, image_in, MayHold, turned, MayTurn, IsFault, with_fault, with_current, with_flag, Came, IsOverwritten, IsPointStep, StoreStep, moment_of}
 use Rattle.dali_crash.specs.StoreRuns.{IsCopied, IsKept, AreWritten, StoreRun, CurrentIsSmall, StoreStepKeeps, StoreCourseKeeps, TurnEnds, BareStoreCourseKeeps, TurnLeaves}
-use Rattle.dali_record.specs.Blocks.{AreWords}
+use Rattle.dali_words.specs.Words.{AreWords}
 use Rattle.dali_record.proofs.Batches.{number_is_length, got_none}
 use Rattle.dali_counts.proofs.SmallLogs.{is_small}
 use Rattle.dali_crash.proofs.StepFlags.{flags_go}
@@ -112,21 +111,6 @@ vault_faults old new L n k v rose less run = record {
 
 abbrev Batches : (old new : Files → Type 0) → Type 0
 Batches old new = (F : Files) → new F → (D : Files) × old D × (F.batches ≡ D.batches)
-
--- the same core, and crash images with the same logs
-run_less : (bases : Bases) (before : List Record) (old new : Files → Type 0) (m : Moment) → ((F : Files) → new F → old F) → RunsAt bases before old m → RunsAt bases before new m
-run_less bases before old new m less at = record {
-  log = at.log;
-  run = record {
-    first = at.run.first;
-    began = at.run.began;
-    runs = at.run.runs;
-    frame = at.run.frame;
-    taken = at.run.taken;
-    vault = vault_less old new (log_after before m.core.system) (stable m.core) m.core.vault m.core.vault refl refl refl refl (λ F h. (F, less F h, refl)) at.run.vault;
-  };
-  audits = record { within = at.audits.within; tells = at.audits.tells; once = at.audits.once };
-}
 
 -- the anchor moved
 run_turned : (bases : Bases) (before : List Record) (old new : Files → Type 0) (m : Moment) → Batches old new → RunsAt bases before old m → RunsAt bases before new (record { log = m.log; core = with_current m.core; audits = m.audits })
@@ -345,7 +329,7 @@ copied_same base e r g h k ws p m is = ⊎_elim (λ a. inl a) (λ a. inr (record
 
 -- ---- the words in a place
 are_words : (bases : Bases) (L : List Record) (c : CoreState) (r : ℕ) (g : RegionState) → RunsOn bases L c → slice_get c.regions r ≡ Some g → AreWords g.back
-are_words bases L c r g run at = let is = (run.regions r g at).protected in (is.back_size, recursion_from_All (λ w. w < 2 ^ 64) g.back is.back_fits)
+are_words bases L c r g run at = (run.regions r g at).protected.back
 
 cleaned_other : (t s : Side) (g : RegionState) → same_side s t ≡ false → is_dirty (cleaned t g) s ≡ is_dirty g s
 cleaned_other A A g e = absurd (cc)
@@ -605,16 +589,7 @@ turn_fails bases before old new st h b k n run fault may store = record {
 
 -- ---- fewer crash images
 pub fewer_runs : (bases : Bases) (before : List Record) (old new : Files → Type 0) (st : Point) → ((F : Files) → new F → old F) → StoreRun bases before old st → StoreRun bases before new st
-fewer_runs bases before old new st less run = record {
-  run = run_less bases before old new (moment_of st) less run.run;
-  images = images_fewer bases st.told old new st.core less run.images;
-  anchor = λ e F h. run.anchor e F (less F h);
-  kept = λ h e. kept_less st.log st.core.vault st.core.vault old new h refl less (run.kept h e);
-  copied = run.copied;
-  written = run.written;
-  moved = run.moved;
-  few = λ F h. run.few F (less F h);
-}
+fewer_runs bases before old new st less run = still bases before old new st st.heads st.synced run less
 
 -- ---- each step
 pub store_step_runs : (bases : Bases) (before : List Record) (old leave : Files → Type 0) (st new : Point) (x : StoreStep) → StoreRun bases before old st → IsPointStep st x new → Leaves old leave st x → StoreRun bases before leave new

@@ -301,40 +301,13 @@ moment_halts start p q D E F xs x t s inside = ⊎_elim stays (by_step x s) insi
     halted y r log core step came = record { point = r; steps = xs ++ y ∷ []; trace = trace_goes_on start p r D E F xs y t step came; log = log; vault = faulted c.vault n; core = core; flushed = refl }
 
     in_flush : c.vault.stopped ≡ false → Came p (Does (Faults n)) E F → Halts start p D F
-    in_flush runs came = halted (Does (Faults n)) (record {
-      log = p.log;
-      core = with_fault c n;
-      audits = p.audits;
-      told = p.told;
-      heads = p.heads;
-      synced = p.synced;
-      begun = p.begun;
-      copies = copies_after c (Faults n) p.copies;
-    }) refl refl (refl, ((runs, risen c.vault.faults, (refl, refl)), refl), refl) came
+    in_flush runs came = halted (Does (Faults n)) (record p { core = with_fault c n; copies = copies_after c (Faults n) p.copies }) refl refl (refl, ((runs, risen c.vault.faults, (refl, refl)), refl), refl) came
 
     in_write : MayWrite p → (F ≡ E) ⊎ IsOverwritten (target p) E F → Halts start p D F
-    in_write may came = let h : Head = p.heads (target p) in halted (HeadFails h n) (record {
-      log = p.log;
-      core = with_fault c n;
-      audits = p.audits;
-      told = p.told;
-      heads = head_with p.heads (target p) h;
-      synced = synced_with p.synced (target p) false;
-      begun = p.begun;
-      copies = p.copies;
-    }) refl refl (record { may = may; rose = risen c.vault.faults }, refl) came
+    in_write may came = let h : Head = p.heads (target p) in halted (HeadFails h n) (record p { core = with_fault c n; heads = head_with p.heads (target p) h; synced = synced_with p.synced (target p) false }) refl refl (record { may = may; rose = risen c.vault.faults }, refl) came
 
     in_turn : (h : Head) (b k : ℕ) → MayWrite p → MayTurn p h b k → (F ≡ E) ⊎ IsTurnedFrom p E F → Halts start p D F
-    in_turn h b k may turn came = halted (TurnFails n) (record {
-      log = p.log;
-      core = with_fault c n;
-      audits = p.audits;
-      told = p.told;
-      heads = p.heads;
-      synced = p.synced;
-      begun = None;
-      copies = p.copies;
-    }) refl refl (h, b, k, record { may = may; rose = risen c.vault.faults }, turn, refl) came
+    in_turn h b k may turn came = halted (TurnFails n) (record p { core = with_fault c n; begun = None }) refl refl (h, b, k, record { may = may; rose = risen c.vault.faults }, turn, refl) came
 
     by_core : (y : Step) → IsPointStep p (Does y) q → Came p (Does y) E F → Halts start p D F
     by_core Flushes s came = in_flush s.1.0.0 (inr came)

@@ -17,7 +17,7 @@ use Rattle.dali_system.specs.Regions.{Latch, NoteReads}
 use Rattle.dali_system.specs.Flushes.{with_vault, longer, frame_of}
 use Rattle.dali_system.specs.Courses.{Begins, Operates, Answers, Commits, Locks, OnRegion, Takes, Flushes, Moment, IsStepAt, CameBy, CoreTraced}
 use Rattle.dali_system.proofs.Loads.{no_lock}
-use Rattle.dali_record.specs.Blocks.{AreWords}
+use Rattle.dali_words.specs.Words.{AreWords}
 use Rattle.dali_record.specs.Spelling.{IsBlock}
 use Rattle.dali_record.specs.declared.operations.Op.TheVariants.{Look}
 use Rattle.dali_index.specs.Entries.{entries}

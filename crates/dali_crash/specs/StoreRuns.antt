@@ -24,7 +24,7 @@
 --     SyncedStays              so it is after each step but a sync that leaves the file synced
 use Rattle.std.specs.Prelude.{◌≡◌, ℕ, ◌+◌, ◌*◌, ◌^◌, ◌<◌, ◌≤◌, Bool, true, false, ◌⊎◌, List, Some, None, Option, is_some, length, take, sum_by, slice_get, flat_map}
 use Rattle.dali_record.specs.declared.records.Record.{Record}
-use Rattle.dali_record.specs.Blocks.{AreWords}
+use Rattle.dali_words.specs.Words.{AreWords}
 use Rattle.dali_record.specs.Epochs.{Epoch, last_epoch, next_number}
 use Rattle.dali_record.specs.Settled.{settled_before}
 use Rattle.dali_record.specs.Spelling.{record_length}

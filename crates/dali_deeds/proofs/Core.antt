@@ -320,7 +320,7 @@ module _ (bases : Bases) (before : List Record) (w0 : World) (c : ℕ) (p q : Po
   audit_ends b found began step runs_on is log audits proper =
       told_plain w c p q told (audit_record b found) (with_system p.core (audit_ended p.core.system b found)) (not_begin b found) is log audits
       (record {
-        onward = record { sizes = refl; limit = refl; flushed = omega arith; failed = λ e. e; sealed = λ e. refl; stop = λ cause e. end_stop found cause runs_on e; refusals = λ f h. h; count = refl };
+        onward = record { core = record { sizes = refl; limit = refl; flushed = omega arith; failed = λ e. e; sealed = λ e. refl; stop = λ cause e. end_stop found cause runs_on e; refusals = λ f h. h }; count = refl };
         stays = same_regions p.core.regions;
         vault = refl;
         states = λ t. end_state b found t (state_of p.core.system t);

@@ -105,7 +105,7 @@ module _ (bases : Bases) (before : List Record) (w0 : World) (c : ℕ) (p q : Po
       d = with_system p.core (refused p.core.system t k m h)
 
       on : Onward p.core d
-      on = record { sizes = refl; limit = refl; flushed = omega arith; failed = λ e. e; sealed = λ e. refl; stop = λ z e. e; refusals = λ g there. Contains-append_left p.core.system.refusals _ g there; count = refl }
+      on = record { core = record { sizes = refl; limit = refl; flushed = omega arith; failed = λ e. e; sealed = λ e. refl; stop = λ z e. e; refusals = λ g there. Contains-append_left p.core.system.refusals _ g there }; count = refl }
 
   -- ---- locks
   gets_lock : (t k : ℕ) (m : Mode) → q.core ≡ with_system p.core (granted p.core.system t k m) → q.log ≡ p.log → q.audits ≡ p.audits → AreRightThen w c (GetsLock t k m ∷ []) q.core
@@ -221,14 +221,14 @@ module _ (bases : Bases) (before : List Record) (w0 : World) (c : ℕ) (p q : Po
   flushes is runs_on log audits =
       let l = longer_is p.core.vault (frame_of p.log p.core) in
       unseen bases before w0 c p q run told (with_vault p.core (longer p.core.vault (frame_of p.log p.core))) is log
-      (record { sizes = refl; limit = refl; flushed = omega (arith, l.3); failed = λ e. l.1 ∙ e; sealed = λ e. let no : true ≡ false = sym e ∙ runs_on in absurd (cc); stop = λ z e. e; refusals = λ f h. h; count = refl })
+      (record { core = record { sizes = refl; limit = refl; flushed = omega (arith, l.3); failed = λ e. l.1 ∙ e; sealed = λ e. let no : true ≡ false = sym e ∙ runs_on in absurd (cc); stop = λ z e. e; refusals = λ f h. h }; count = refl })
       (same_regions p.core.regions) (λ t. refl) (λ t k o e. e) l.0 l.1 l.2 refl refl (unseen_passes bases before w0 c p q run told _ audits)
 
   fails : (d : CoreState) (n : ℕ) → d.regions ≡ p.core.regions → d.system ≡ p.core.system → d.vault ≡ faulted p.core.vault n → p.core.vault.stopped ≡ false → HasRisen p.core.vault.faults n
       → q.core ≡ d → q.log ≡ p.log → q.audits ≡ p.audits → Goes w c p (Meets StoreFailed ∷ []) (after w c (Meets StoreFailed ∷ []) q.core) q
   fails d n regions system vault runs_on rose is log audits =
       seen bases before w0 c p q run told (Meets StoreFailed) (with_vault p.core (faulted p.core.vault n)) refl (is ∙ whole) log audits
-      (record { sizes = refl; limit = refl; flushed = omega arith; failed = λ e. refl; sealed = λ e. refl; stop = λ z e. e; refusals = λ f h. h; count = refl })
+      (record { core = record { sizes = refl; limit = refl; flushed = omega arith; failed = λ e. refl; sealed = λ e. refl; stop = λ z e. e; refusals = λ f h. h }; count = refl })
       (plain_owes (Meets StoreFailed) _ tt refl (λ r g at. (g, at, refl, refl)) (λ b found e'. absurd (cc)) (λ u. refl) (λ u j o e. e) (runs_on, refl, rose) (sym (append-nil p.core.system.refusals)) tt (λ e'. tt))
       told.flag (tt, tt)
     where
@@ -303,7 +303,7 @@ module _ (bases : Bases) (before : List Record) (w0 : World) (c : ℕ) (p q : Po
   at_core (Recovers r) ds other (s, audits) e right = subst (λ es. Goes (record w0 { core = p.core }) c p es (after w0 c es q.core) q) (sym e) (changed_region bases before w0 c p q run told r s.0 (taken_back s.0) s.1 refl refl s.3.1 s.3.0 audits)
   at_core Stops ds other (s, audits) e right = subst (λ es. Goes (record w0 { core = p.core }) c p es (after w0 c es q.core) q) (sym e)
       (quiet bases before w0 c p q run told (with_system p.core (store_stopped p.core.system)) s.1.1 s.1.0 audits
-      (record { sizes = refl; limit = refl; flushed = omega arith; failed = λ f. f; sealed = λ f. refl; stop = λ z f. keeps_stop p.core.system.stop z f; refusals = λ g h. h; count = refl })
+      (record { core = record { sizes = refl; limit = refl; flushed = omega arith; failed = λ f. f; sealed = λ f. refl; stop = λ z f. keeps_stop p.core.system.stop z f; refusals = λ g h. h }; count = refl })
       (same_regions p.core.regions) (λ u. refl) (λ u j o h. h) refl refl refl)
   at_core (Checkpoints b) ds other (s, audits) e right = absurd (cc)
   at_core Takes ds other (s, audits) e right = subst (λ es. Goes (record w0 { core = p.core }) c p es (after w0 c es q.core) q) (sym e) (quiet bases before w0 c p q run told (with_system p.core (taken p.core.system)) s.1 s.0 audits (plain _ _ refl refl refl refl refl refl refl) (same_regions p.core.regions) (λ u. refl) (λ u j o h. h) refl refl refl)
@@ -334,7 +334,7 @@ module _ (bases : Bases) (before : List Record) (w0 : World) (c : ℕ) (p q : Po
       → Goes (record w0 { core = p.core }) c p (MovesAnchor (p.core.vault.current + 1) ∷ []) (after w0 c (MovesAnchor (p.core.vault.current + 1) ∷ []) q.core) q
   turns is log audits =
       seen bases before w0 c p q run told (MovesAnchor (p.core.vault.current + 1)) (with_current p.core) refl is log audits
-      (record { sizes = refl; limit = refl; flushed = omega arith; failed = λ e. e; sealed = λ e. refl; stop = λ z e. e; refusals = λ f h. h; count = refl })
+      (record { core = record { sizes = refl; limit = refl; flushed = omega arith; failed = λ e. e; sealed = λ e. refl; stop = λ z e. e; refusals = λ f h. h }; count = refl })
       (plain_owes bases before w0 c p q run told (MovesAnchor (p.core.vault.current + 1)) _ tt (refl, refl) (λ r g at. (g, at, refl, refl)) (λ b found e'. absurd (cc)) (λ u. refl) (λ u j o e. e) (refl, refl) (sym (append-nil p.core.system.refusals)) tt (λ e'. tt))
       told.flag (tt, tt)
 

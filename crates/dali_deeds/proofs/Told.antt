@@ -1,14 +1,12 @@
 -- What a client does keeps what a world tells, whatever the step is by which it does it.
-use Rattle.std.proofs.Common.{◌≡◌, ℕ, zero, suc, ◌<◌, ◌≤◌, true, List, [], ◌∷◌, ◌++◌, length, Some, None, refl, ap, sym, subst, ◌∙◌, ◌⊎◌, inl, inr, arith}
-use Rattle.std.specs.Prelude.{Contains, fold, is_some, slice_get, take}
+use Rattle.std.proofs.Common.{◌≡◌, ℕ, zero, suc, ◌<◌, true, List, [], ◌∷◌, ◌++◌, length, Some, None, refl, ap, sym, subst, ◌∙◌, ◌⊎◌, inl, inr, arith}
+use Rattle.std.specs.Prelude.{fold, is_some, slice_get, take}
 use Rattle.std.proofs.lemmas.List.{append_assoc, take-append-le, length-append}
 use Rattle.std.proofs.lemmas.List.Elements.{filter_map-append}
 use Rattle.std.proofs.lemmas.List.Sums.{fold-append}
 use Rattle.dali_counts.proofs.Lists.{some_same}
 use Rattle.dali_record.specs.declared.records.Record.TheVariants.{AuditBegin}
-use Rattle.dali_system.specs.declared.causes.Cause.{Cause}
-use Rattle.dali_system.specs.declared.refusals.Refusal.{Refusal}
-use Rattle.dali_system.specs.State.{CoreState, stable}
+use Rattle.dali_system.specs.State.{CoreState}
 use Rattle.dali_system.specs.Passes.{Pass, Audits}
 use Rattle.dali_crash.specs.Checkpoints.{Point}
 use Rattle.dali_transcripts.specs.World.{Deed, World, IsLogged, record_of, logged_by, log_of, span_step, stray_after, under_way, Grows}
@@ -17,55 +15,23 @@ use Rattle.dali_transcripts.specs.Rounds.{by, AreAtOnce, HoldsTogether}
 use Rattle.dali_transcripts.specs.Together.{RightNow, Owes, HasKept}
 use Rattle.dali_transcripts.proofs.Together.{together_by_deed, together_by_none}
 use Rattle.dali_transcripts.proofs.Looks.{at_once_by_deed, at_once_by_none}
-use Rattle.dali_transcripts.proofs.Grown.{grows_on}
+use Rattle.dali_transcripts.proofs.Grown.{Onward as CoreOnward, plain as plain_core, grown, grows_on}
 use Rattle.dali_transcripts.proofs.Growing.{right_goes_on}
 use Rattle.dali_deeds.specs.Tells.{after, AreRightThen, WasPassed, PassesAreTold, Tells, Goes}
 
 -- ---- a core that goes on
 pub record Onward (c d : CoreState) : Type 0 where
-  pub sizes : d.system.sizes ≡ c.system.sizes
-  pub limit : d.system.limit ≡ c.system.limit
-  pub flushed : stable c ≤ stable d
-  pub failed : c.vault.stopped ≡ true → d.vault.stopped ≡ true
-  pub sealed : c.vault.stopped ≡ true → stable d ≡ stable c
-  pub stop : (cause : Cause) → c.system.stop ≡ Some cause → d.system.stop ≡ Some cause
-  pub refusals : (f : Refusal) → Contains c.system.refusals f → Contains d.system.refusals f
+  pub core : CoreOnward c d
   pub count : length d.regions ≡ length c.regions
 
 -- its stop and refusals, and the vault, as they were
 pub plain : (c d : CoreState) → d.system.sizes ≡ c.system.sizes → d.system.limit ≡ c.system.limit → d.system.first ≡ c.system.first → d.system.stop ≡ c.system.stop
     → d.system.refusals ≡ c.system.refusals → d.vault ≡ c.vault → length d.regions ≡ length c.regions → Onward c d
-plain c d sizes limit first stop refusals vault count =
-    let same : stable d ≡ stable c = rw (first, vault) refl in
-    record {
-      sizes = sizes;
-      limit = limit;
-      flushed = omega (arith, same);
-      failed = λ e. rw vault e;
-      sealed = λ e. same;
-      stop = λ z e. stop ∙ e;
-      refusals = λ f h. rw refusals h;
-      count = count;
-    }
+plain c d sizes limit first stop refusals vault count = record { core = plain_core c d sizes limit first stop refusals vault; count = count }
 
 pub grows : (w : World) (c : ℕ) (ds : List Deed) (d : CoreState) → Onward w.core d → (g : Grows w (after w c ds d)) × (g.more ≡ by c ds)
-grows w c ds d on = (
-  record {
-    old = refl;
-    before = refl;
-    precheck = refl;
-    more = by c ds;
-    happened = refl;
-    sizes = on.sizes;
-    limit = on.limit;
-    flushed = on.flushed;
-    failed = on.failed;
-    sealed = on.sealed;
-    stopped = on.stop;
-    refusals = on.refusals;
-  },
-  refl,
-)
+unfolding grown
+grows w c ds d on = (grown w (by c ds) d on.core, refl)
 
 -- ---- lists
 pub push_cases : {X : Type 0} (xs : List X) (z : X) (i : ℕ) (y : X) → slice_get (xs ++ z ∷ []) i ≡ Some y → (slice_get xs i ≡ Some y) ⊎ (z ≡ y)

@@ -1,34 +1,26 @@
 -- The numbers of transactions rise along a log, so the lists of the deleted ascend across its epochs, and are a replay's list.
---     Up xs                    each number of xs is below all later ones
 --     Begun n L                the Begins of L rise, and are below n
-use Rattle.std.proofs.Common.{◌≡◌, ℕ, zero, suc, ◌+◌, ◌<◌, ◌≤◌, Bool, true, false, cond, List, [], ◌∷◌, ◌++◌, Option, Some, None, refl, ap, sym, subst, ◌∙◌, ⊎_elim, arith, append-nil}
-use Rattle.std.specs.Prelude.{◌&&◌, ◌==◌, ◌||◌, ⊤, IsSome, filter, flat_map, slice_index}
-use Rattle.std.specs.List.{AllByRecursion, AllPairs}
+use Rattle.std.proofs.Common.{◌≡◌, ℕ, zero, suc, ◌+◌, ◌<◌, ◌≤◌, Bool, true, false, cond, List, [], ◌∷◌, ◌++◌, Option, Some, None, refl, ap, sym, subst, ◌∙◌, arith, append-nil}
+use Rattle.std.specs.Prelude.{◌&&◌, IsSome, filter, flat_map, slice_index}
+use Rattle.std.specs.List.{AllByRecursion}
 use Rattle.std.specs.List.Sorted.{IsStrictlyIncreasing}
-use Rattle.std.proofs.lemmas.Bool.{or_cases, eqb-true, true≢false}
 use Rattle.std.proofs.lemmas.List.Elements.{filter_map-append}
-use Rattle.std.proofs.lemmas.List.Kept.{AllPairs-from_increasing}
-use Rattle.dali_lists.proofs.Members.{all_greater}
-use Rattle.dali_lists.proofs.Tests.{left_true}
 use Rattle.dali_geometry.specs.Sizes.{Sizes}
 use Rattle.dali_record.specs.declared.records.Record.{Record}
 use Rattle.dali_record.specs.declared.records.Record.TheVariants.{Format, Begin, Forward, Done, Commit, Ended, Solo, AuditBegin, AuditClean, AuditFail, Restarted, Back}
 use Rattle.dali_record.specs.Log.{begin_by, begun, committed}
 use Rattle.dali_record.specs.Epochs.{Epoch, epochs}
 use Rattle.dali_record.specs.Damage.{has, deleted_list, damage_of, marks, has_corrupt}
-use Rattle.dali_record.specs.Legal.{Rules, rules_state, rules_next, rules_step, rules_first, rules_behind, runs, has_room}
+use Rattle.dali_record.specs.Legal.{Rules, rules_state, rules_next, rules_step}
 use Rattle.dali_record.proofs.Ends.{by_push}
 use Rattle.dali_record.proofs.Pushes.{rules_state_push}
 use Rattle.dali_counts.specs.Counts.{next_with}
-use Rattle.dali_counts.proofs.Tallies.{tells_step, if_kept, if_none}
+use Rattle.dali_counts.proofs.Tallies.{tells_step}
+use Rattle.dali_counts.proofs.Begins.{begin_number}
 use Rattle.dali_history.proofs.ByEpochs.{in_epochs}
-use Rattle.dali_history.proofs.Members.{here_too}
+use Rattle.dali_history.proofs.Rising.{Up, up_from, same_up, all_filter}
 
 -- ---- numbers that rise
-abbrev pub Up : List ℕ → Type 0
-Up [] = ⊤
-Up (x ∷ xs) = AllByRecursion (λ y. x < y) xs × Up xs
-
 all_weaker : (x y : ℕ) (xs : List ℕ) → x ≤ y → AllByRecursion (λ z. y < z) xs → AllByRecursion (λ z. x < z) xs
 all_weaker x y [] l h = tt
 all_weaker x y (z ∷ zs) l h = (omega (arith, l, h.0), all_weaker x y zs l h.1)
@@ -40,14 +32,6 @@ all_append x (z ∷ zs) ys h g = (h.0, all_append x zs ys h.1 g)
 all_front : (x : ℕ) (xs ys : List ℕ) → AllByRecursion (λ z. x < z) (xs ++ ys) → AllByRecursion (λ z. x < z) xs × AllByRecursion (λ z. x < z) ys
 all_front x [] ys h = (tt, h)
 all_front x (z ∷ zs) ys h = let y = all_front x zs ys h.1 in ((h.0, y.0), y.1)
-
-all_filter : (x : ℕ) (p : ℕ → Bool) (xs : List ℕ) → AllByRecursion (λ z. x < z) xs → AllByRecursion (λ z. x < z) (filter p xs)
-all_filter x p [] h = tt
-all_filter x p (y ∷ ys) h = by_test (all_filter x p ys h.1) (p y)
-  where
-    by_test : AllByRecursion (λ z. x < z) (filter p ys) → (b : Bool) → AllByRecursion (λ z. x < z) (cond b (y ∷ filter p ys) (filter p ys))
-    by_test rest true = (h.0, rest)
-    by_test rest false = rest
 
 -- part of a list that rises, before part of another that rises above it
 up_filter : (p : ℕ → Bool) (xs ys zs : List ℕ) → Up (xs ++ ys) → (Up ys → Up zs) → ((x : ℕ) → AllByRecursion (λ y. x < y) ys → AllByRecursion (λ y. x < y) zs) → Up (filter p xs ++ zs)
@@ -79,56 +63,10 @@ increasing (x ∷ y ∷ zs) up (suc k) h =
     let next : suc k + 1 ≡ suc (k + 1) = omega arith in
     subst (λ (n : ℕ). slice_index (y ∷ zs) k < slice_index (x ∷ y ∷ zs) n) (sym next) (increasing (y ∷ zs) up.1 k (omega (arith, h)))
 
-up_from : (xs : List ℕ) → AllPairs (λ x y. x < y) xs → Up xs
-up_from [] h = tt
-up_from (x ∷ xs) h = (all_greater x xs (λ j l. h 0 (suc j) 0 (omega arith) (omega (arith, l))), up_from xs (λ i j d a b. h (suc i) (suc j) d (omega (arith, a)) (omega (arith, b))))
-
--- ---- lists that rise and have the same numbers
-
-above : (x : ℕ) (xs : List ℕ) (t : ℕ) → AllByRecursion (λ y. x < y) xs → has xs t ≡ true → x < t
-above x [] t all h = absurd (cc)
-above x (y ∷ ys) t all h = ⊎_elim (λ s. subst (λ (z : ℕ). x < z) (eqb-true y t s) all.0) (λ k. above x ys t all.1 k) (or_cases (y == t) (has ys t) h)
-
-not_below : (x : ℕ) (xs : List ℕ) → AllByRecursion (λ y. x < y) xs → has xs x ≡ false
-not_below x xs all = by_test (has xs x) refl
-  where
-    by_test : (b : Bool) → has xs x ≡ b → has xs x ≡ false
-    by_test false e = e
-    by_test true e = absurd (omega (arith, above x xs x all e))
-
-same_head : (x : ℕ) (xs : List ℕ) (y : ℕ) (ys : List ℕ) → Up (x ∷ xs) → Up (y ∷ ys) → ((t : ℕ) → has (x ∷ xs) t ≡ has (y ∷ ys) t) → x ≡ y
-same_head x xs y ys up vp same =
-    ⊎_elim
-    (λ e. sym (eqb-true y x e))
-    (λ k. ⊎_elim (λ e. eqb-true x y e) (λ j. absurd (omega (arith, above y ys x vp.0 k, above x xs y up.0 j))) (or_cases (x == y) (has xs y) (same y ∙ here_too y ys)))
-    (or_cases (y == x) (has ys x) (sym (same x) ∙ here_too x xs))
-
-pub same_up : (xs ys : List ℕ) → Up xs → Up ys → ((t : ℕ) → has xs t ≡ has ys t) → xs ≡ ys
-same_up [] [] up vp same = refl
-same_up [] (y ∷ ys) up vp same = absurd (true≢false (sym (here_too y ys) ∙ sym (same y)))
-same_up (x ∷ xs) [] up vp same = absurd (true≢false (sym (here_too x xs) ∙ same x))
-same_up (x ∷ xs) (y ∷ ys) up vp same =
-    let one : x ≡ y = same_head x xs y ys up vp same in
-    ap (λ (z : ℕ). z ∷ xs) one ∙ ap (λ (l : List ℕ). y ∷ l) (same_up xs ys up.1 vp.1 (λ t. by_test one t (x == t) refl))
-  where
-    by_test : x ≡ y → (t : ℕ) (b : Bool) → (x == t) ≡ b → has xs t ≡ has ys t
-    by_test one t true e =
-        let at : x ≡ t = eqb-true x t e in
-        ap (λ (z : ℕ). has xs z) (sym at) ∙ not_below x xs up.0 ∙ sym (ap (λ (z : ℕ). has ys z) (sym at ∙ one) ∙ not_below y ys vp.0)
-    by_test one t false e =
-        sym (ap (λ (b : Bool). b || has xs t) e) ∙ same t ∙ ap (λ (b : Bool). b || has ys t) (ap (λ (z : ℕ). z == t) (sym one) ∙ e)
-
 pub same_increasing : (xs ys : List ℕ) → Up xs → IsStrictlyIncreasing ys → ((t : ℕ) → has xs t ≡ has ys t) → xs ≡ ys
-same_increasing xs ys up vp same = same_up xs ys up (up_from ys (AllPairs-from_increasing ys vp)) same
+same_increasing xs ys up vp same = same_up xs ys up (up_from ys vp) same
 
 -- ---- the Begins of a log
-pub begin_number : (s : Sizes) (h : Rules) (u : ℕ) → IsSome (rules_step s h (Begin u)) → u ≡ h.next
-begin_number s h u k = by_test (h.count == 0) k
-  where
-    by_test : (c : Bool) → IsSome (cond c (rules_first s h (Begin u)) (rules_behind s h (Begin u))) → u ≡ h.next
-    by_test true k = absurd (cc)
-    by_test false k = eqb-true u h.next (left_true (u == h.next) (has_room h (Begin u)) (if_kept _ _ (if_none h.failed (runs s h (Begin u)) k)))
-
 record Begun (n : ℕ) (L : List Record) : Type 0 where
   up : Up (begun L)
   below : AllByRecursion (λ t. t < n) (begun L)

@@ -9,7 +9,7 @@ use Rattle.dali_record.specs.Legal.{TxnState, Unbegun, txn_next, txn_state, Rule
 use Rattle.dali_record.proofs.Ends.{by_push}
 use Rattle.dali_record.proofs.Pushes.{separates, txn_state_push, rules_state_push, cut_push}
 use Rattle.dali_record.proofs.Stages.{state_from, state_from_push, IsStart}
-use Rattle.dali_record.proofs.EpochRules.{format_first, restarted_start, some_before}
+use Rattle.dali_record.proofs.EpochRules.{format_empty, restarted_start, some_before}
 use Rattle.dali_history.proofs.OwnEpoch.{cut_step_more}
 
 abbrev pub StartsAt : Sizes → ℕ → List Record → Cut → Type 0
@@ -19,14 +19,7 @@ starts_more : (s : Sizes) (t : ℕ) (L : List Record) (r : Record) → separates
 starts_more s t L r e w = (w.0, w.1, txn_state_push s t L r ∙ ap (λ o. txn_next s t o r) w.2 ∙ sym (ap (λ (c : Cut). state_from s t w.0 c.now.records) (cut_step_more (cut L) r e) ∙ state_from_push s t w.0 (cut L).now.records r))
 
 starts_step : (s : Sizes) (t : ℕ) (L : List Record) (r : Record) → IsSome (rules_state s (L ++ r ∷ [])) → IsSome (txn_state s t (L ++ r ∷ [])) → StartsAt s t L (cut L) → StartsAt s t (L ++ r ∷ []) (cut_step (cut L) r)
-starts_step s t L (Format i h) rules some w = (Unbegun, inl refl, subst (λ M. txn_state s t (M ++ Format i h ∷ []) ≡ Some Unbegun) (sym empty) refl)
-  where
-    by_state : (o : Option Rules) → rules_state s (L ++ Format i h ∷ []) ≡ o → IsSome o → L ≡ []
-    by_state None e g = absurd (cc)
-    by_state (Some g) e q = format_first s L i h g e
-
-    empty : L ≡ []
-    empty = by_state (rules_state s (L ++ Format i h ∷ [])) refl rules
+starts_step s t L (Format i h) rules some w = (Unbegun, inl refl, subst (λ M. txn_state s t (M ++ Format i h ∷ []) ≡ Some Unbegun) (sym (format_empty s L i h rules)) refl)
 starts_step s t L (Restarted rs ds) rules some w = let x = some_before s t L (Restarted rs ds) some in let y = restarted_start s t x.0 rs ds in (y.0, y.1, txn_state_push s t L (Restarted rs ds) ∙ ap (λ o. txn_next s t o (Restarted rs ds)) x.1 ∙ y.2)
 starts_step s t L (Begin u) rules some w = starts_more s t L (Begin u) refl w
 starts_step s t L (Forward u b) rules some w = starts_more s t L (Forward u b) refl w

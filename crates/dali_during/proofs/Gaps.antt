@@ -9,7 +9,7 @@ use Rattle.dali_record.specs.declared.records.Call.TheVariants.{Insert}
 use Rattle.dali_record.specs.declared.records.Answer.TheVariants.{Ok as AnswerOk}
 use Rattle.dali_record.specs.declared.records.Record.{Record}
 use Rattle.dali_record.specs.declared.records.Record.TheVariants.{Begin, Forward, Done}
-use Rattle.dali_record.specs.Blocks.{AreWords}
+use Rattle.dali_words.specs.Words.{AreWords}
 use Rattle.dali_record.specs.Spelling.{IsBlock}
 use Rattle.dali_record.proofs.Made.{made_is_block}
 use Rattle.dali_words.specs.Values.{IsValue}

@@ -2,7 +2,6 @@
 use Rattle.std.proofs.Common.{◌≡◌, ℕ, zero, suc, ◌<◌, true, false, List, [], ◌∷◌, ◌++◌, map, Some, None, refl, ap, inl, arith}
 use Rattle.std.specs.List.{list_any}
 use Rattle.std.proofs.lemmas.Bool.{or_parts}
-use Rattle.dali_lists.proofs.Numbers.{both_below_two}
 use Rattle.dali_record.specs.declared.records.Record.{Record}
 use Rattle.dali_record.specs.declared.records.Record.TheVariants.{Format, AuditBegin, AuditClean}
 use Rattle.dali_record.specs.Legal.{rules_state}
@@ -24,9 +23,9 @@ use Rattle.dali_system.proofs.Removal.{named_by}
 use Rattle.dali_system.proofs.Touching.{passing, quiet_trace}
 use Rattle.dali_crash.specs.Worked.{look}
 use Rattle.dali_crash.specs.Restarted.{put, add}
-use Rattle.dali_crash.specs.Checkpoints.{Head, Copy, Point, StoreStep, Does, Starts, Keeps, Copies, WritesHead, Syncs, Turns, Finishes, is_of_checkpoint, target, head_now, head_with, synced_with, copies_with, copies_after, IsCertified, MayTurn, IsPointStep, with_current, with_flag, turned, Came, IsTurnedFrom, Traced, moment_of}
+use Rattle.dali_crash.specs.Checkpoints.{Head, Point, StoreStep, Does, Starts, Keeps, Copies, WritesHead, Syncs, Turns, Finishes, is_of_checkpoint, target, head_now, head_with, synced_with, copies_with, copies_after, MayTurn, IsPointStep, with_current, with_flag, turned, Came, IsTurnedFrom, Traced, moment_of}
 use Rattle.dali_crash.specs.Checkpointed.{no_head, checkpoint_start, checkpoint_from}
-use Rattle.dali_crash.proofs.Checkpointed.{history, starts, right}
+use Rattle.dali_crash.proofs.Checkpointed.{may_turn, history, starts, right}
 use Rattle.dali_during.specs.Whole.{look_free, put_again, unput, before_checkpoint, worked, life, WorkedLife}
 use Rattle.dali_during.proofs.Gaps.{first}
 use Rattle.dali_during.proofs.Whole.{ready, index_now, heap_now, course_before}
@@ -212,15 +211,7 @@ t14 = (record { runs = refl; under_way = refl }, refl)
 
 may : MayTurn s14 new_head 24 25
 unfolding look put add found kill_cell kill_entry free_cell free_entry look_free put_again unput entries cells
-may = record {
-  begun = refl;
-  head = refl;
-  synced = refl;
-  clean = refl;
-  ends = omega arith;
-  flushed = omega arith;
-  copies = both_below_two (λ r. (c : Copy) × (s14.copies (target s14) r ≡ Some c) × IsCertified new_head 24 c) (record { at = 24; passed = true }, refl, record { since = omega arith; until = omega arith; passed = refl }) (record { at = 24; passed = true }, refl, record { since = omega arith; until = omega arith; passed = refl });
-}
+may = may_turn s14 new_head 24 25 refl refl refl refl (omega arith) (omega arith) refl (omega arith) refl refl
 
 t15 : IsPointStep s14 Turns s15
 unfolding look put add found kill_cell kill_entry free_cell free_entry look_free put_again unput entries cells

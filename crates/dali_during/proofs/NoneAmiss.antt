@@ -163,11 +163,7 @@ not_amiss s F k P R v o (Adding key w at region tried) t h = t
 not_amiss s F k P R v o (Removing key region entry at) t h = t
 not_amiss s F k P R v o (Finished c (Odd n)) t h = let no : None ≡ Some h.0 = sym (odd_value v c n) ∙ h.1 in absurd (cc (no))
 not_amiss s F k P R v o (Finished c Rattle.dali_record.specs.declared.records.Answer.TheVariants.Ok) t h = t.0
-not_amiss s F k P R v o (Finished c Rattle.dali_record.specs.declared.records.Answer.TheVariants.Exists) t h = t.0
-not_amiss s F k P R v o (Finished c Rattle.dali_record.specs.declared.records.Answer.TheVariants.Missing) t h = t.0
-not_amiss s F k P R v o (Finished c (Rattle.dali_record.specs.declared.records.Answer.TheVariants.Got x)) t h = t.0
-not_amiss s F k P R v o (Finished c Rattle.dali_record.specs.declared.records.Answer.TheVariants.FullHeap) t h = t.0
-not_amiss s F k P R v o (Finished c Rattle.dali_record.specs.declared.records.Answer.TheVariants.FullIndex) t h = t.0
+not_amiss s F k P R v o _ t h = t.0
 
 -- blocks that take back or free find nothing
 undo_quiet : (d : Undo) (key : ℕ) (ws : List ℕ) → is_amiss (effect (undo_op d) key ws).1 ≡ false

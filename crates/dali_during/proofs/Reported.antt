@@ -35,7 +35,8 @@ use Rattle.dali_system.specs.Run.{Bases, RunsOn, is_committed, IsRow}
 use Rattle.dali_facts.proofs.Begun.{holds_the_begun}
 use Rattle.dali_facts.proofs.Commits.{Com, com_all}
 use Rattle.dali_during.specs.Reported.{named_deleted, reported, ReportsAllDeleted, kept_row, TableIsKept}
-use Rattle.dali_during.proofs.Ascends.{Up, increasing, same_increasing, deleted_up}
+use Rattle.dali_history.proofs.Rising.{Up}
+use Rattle.dali_during.proofs.Ascends.{increasing, same_increasing, deleted_up}
 use Rattle.dali_during.proofs.EpochNow.{starts_at}
 
 -- ---- the lists, epoch by epoch

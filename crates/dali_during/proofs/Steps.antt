@@ -33,8 +33,8 @@ use Rattle.dali_kept.proofs.WithoutLast.{left, sound_before, yields_altered}
 use Rattle.dali_kept.proofs.Invariant.{IsAlone, Knows, yields_left, undo_changes}
 use Rattle.dali_kept.proofs.BacksKeep.{BackStep, back_finds, taken_back}
 use Rattle.dali_kept.proofs.SolosKeep.{frees_dead}
-use Rattle.dali_kept.proofs.InvariantAlong.{state_beside, back_state, region_within, image_region, does_of, is_of_is}
-use Rattle.dali_kept.proofs.InvariantSteps.{Fine, Along, fine_before, state_step, sound_changes, undone_changes, freeing_changes, frees_is, solo_state, frees_slot}
+use Rattle.dali_kept.proofs.InvariantAlong.{back_state, region_within, image_region, does_of, is_of_is}
+use Rattle.dali_kept.proofs.InvariantSteps.{Fine, Along, fine_before, block_takes_back, state_step, sound_changes, undone_changes, freeing_changes, frees_is, solo_state, frees_slot}
 use Rattle.dali_kept.proofs.KnownTxns.{back_is, committed_has}
 use Rattle.dali_during.proofs.NoneAmiss.{Comes, forward_comes}
 use Rattle.dali_during.proofs.Moves.{on, own, on_none, left_push, left_same, Good, stands_good, own_good, Move, all_quiet, ends_others}
@@ -182,17 +182,7 @@ move_back s base J t b h along k = go (some_of (kept_state s t J) (old.calls.txn
                 ch = sound_changes (words_in (redo_all base J) b.region) b (undo_op p.0.undo) sound is.2 (undone_changes p.0.undo b.key (words_in (redo_all base J) b.region))
 
                 step : BackStep s [] J t b z.0 p.0
-                step = record {
-                  knows = along.known;
-                  before = x.1 ∙ ap (λ o. Some o) z.1;
-                  after = y.1 ∙ ap (λ o. Some o) (sym p.3);
-                  beside = λ u apart. state_beside s u J (Back t b) (old.calls.txns u) (ne_eqb t u (λ i. apart (sym i)));
-                  last = p.1;
-                  on = is.0;
-                  changes = ch;
-                  locks = h.locks;
-                  uncut = old.uncut;
-                }
+                step = block_takes_back s base [] J t b z.0 p.0 h along (x.1 ∙ ap (λ o. Some o) z.1) (y.1 ∙ ap (λ o. Some o) (sym p.3)) p.1 is
 
                 undoes : (Undoes (part s (redo_all base J)) (part s (redo_all base (J ++ Back t b ∷ []))) p.0) × (flags (redo_all base (J ++ Back t b ∷ [])) ≡ flags (redo_all base J))
                 undoes = undo_does s (part s (redo_all base J)) (part s (redo_all base (J ++ Back t b ∷ []))) (flags (redo_all base J)) (flags (redo_all base (J ++ Back t b ∷ []))) p.0 b.outcome b.undo (does_of (part s (redo_all base J)) (part s (redo_all base (J ++ Back t b ∷ []))) (flags (redo_all base J)) (flags (redo_all base (J ++ Back t b ∷ []))) (undo_op p.0.undo) p.0 b p.2 does) (back_finds s [] J (part s (redo_all base J)) (part s (redo_all base (J ++ Back t b ∷ []))) (flags (redo_all base J)) t b z.0 p.0 step (map_of s base p.0.key) (along.keyed p.0.key))

@@ -3,7 +3,7 @@ use Rattle.std.proofs.Common.{◌≡◌, ℕ, zero, suc, Bool, true, false, List
 use Rattle.std.specs.Prelude.{◌==◌, ◌&&◌, is_some, if◌then◌else◌}
 use Rattle.std.specs.FinMap.{get, empty}
 use Rattle.dali_lists.proofs.Options.{some_same}
-use Rattle.dali_record.specs.declared.operations.Op.TheVariants.{Look, Put, KillEntry, KillCell, FreeCell, FreeEntry}
+use Rattle.dali_record.specs.declared.operations.Op.TheVariants.{Look, Put, FreeCell}
 use Rattle.dali_record.specs.declared.records.Call.TheVariants.{Insert, Delete}
 use Rattle.dali_record.specs.declared.records.Answer.TheVariants.{Ok as AnswerOk}
 use Rattle.dali_record.specs.declared.records.Record.TheVariants.{Begin, Forward, Done, Commit, Ended, Solo, Back}
@@ -31,7 +31,7 @@ use Rattle.dali_system.proofs.Wholes.{slain}
 use Rattle.dali_system.proofs.RowStates.{begun_state, op_state, back_state, commit_state, turned_state}
 use Rattle.dali_system.proofs.Loads.{no_lock}
 use Rattle.dali_system.proofs.Touching.{join, with_one, after_all, touches}
-use Rattle.dali_system.proofs.Worked.{are_index, are_heap, logging, logs_by, alive_by, strongest}
+use Rattle.dali_system.proofs.Worked.{are_index, are_heap, logging, logs_by, alive_by, is_look as is_found, is_kill_cell, is_kill_entry, is_free_cell, is_free_entry, strongest}
 use Rattle.dali_crash.specs.Worked.{look}
 use Rattle.dali_crash.specs.Restarted.{put, add, put_writes, add_writes}
 use Rattle.dali_during.specs.Whole.{look_free, put_again, unput, before_checkpoint}
@@ -55,26 +55,6 @@ held_by : (l : Locks) (t : ℕ) (d : Bool) → (t == t) ≡ true → covers (get
 held_by l t d same = ap (λ (o : Option Mode). covers o d) (get-locks_with l t 5 Exclusive t 5 ∙ ap (λ b. if b && (5 == 5) then Some (stronger_mode (get l (t, 5)) Exclusive) else get l (t, 5)) same) ∙ strongest (get l (t, 5)) d
 
 -- ---- the blocks
-is_found : IsBlock found
-unfolding found
-is_found = made_is_block Look 5 0 (index_words 1) tt (omega arith) (omega arith) (are_index 1 (omega arith))
-
-is_kill_cell : IsBlock kill_cell
-unfolding kill_cell
-is_kill_cell = made_is_block (KillCell 1) 5 1 (heap_words 1) refl (omega arith) (omega arith) (are_heap 1 (omega arith))
-
-is_kill_entry : IsBlock kill_entry
-unfolding kill_entry
-is_kill_entry = made_is_block (KillEntry 0) 5 0 (index_words 1) refl (omega arith) (omega arith) (are_index 1 (omega arith))
-
-is_free_cell : IsBlock free_cell
-unfolding free_cell
-is_free_cell = made_is_block (FreeCell 1) 5 1 (heap_words 2) refl (omega arith) (omega arith) (are_heap 2 (omega arith))
-
-is_free_entry : IsBlock free_entry
-unfolding free_entry
-is_free_entry = made_is_block (FreeEntry 0) 5 0 (index_words 2) refl (omega arith) (omega arith) (are_index 2 (omega arith))
-
 is_look_free : IsBlock look_free
 unfolding look_free
 is_look_free = made_is_block Look 5 0 (index_words 0) tt (omega arith) (omega arith) (are_index 0 (omega arith))

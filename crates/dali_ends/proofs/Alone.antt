@@ -18,6 +18,7 @@ use Rattle.dali_lists.proofs.Lists.{get_set_other}
 use Rattle.dali_record.specs.Legal.{freeing_op, on_kind, Working, TxnState, Unbegun, Active, txn_next, txn_state, allowed, is_of, back, way_back}
 use Rattle.dali_record.specs.Log.{last_of as pop_of, drop_last}
 use Rattle.dali_record.specs.Operations.{undo_op}
+use Rattle.dali_record.proofs.EpochRules.{kind_in}
 use Rattle.dali_region.specs.declared.Hold.{Hold}
 use Rattle.dali_region.specs.declared.LatchError.{LatchError}
 use Rattle.dali_region.specs.State.{RegionState}
@@ -41,9 +42,12 @@ use Rattle.dali_core.specs.Refused.{stop_of}
 use Rattle.dali_core.specs.TakenBack.{next_undo}
 use Rattle.dali_core.specs.Promised.{Promised, promised_to}
 use Rattle.dali_core.specs.Served.{Served}
+use Rattle.dali_calls.specs.Operating.{IsOwn}
+use Rattle.dali_calls.specs.Others.{PromisesStay, IsGone, HoldStays}
+use Rattle.dali_calls.proofs.Rows.{undos_in}
+use Rattle.dali_calls.proofs.Others.{promises_further}
 use Rattle.dali_single.specs.declared.error.StepError.{StepError}
 use Rattle.dali_single.specs.declared.error.StepError.TheVariants.{Latch as LatchRefused, System as SystemRefused}
-use Rattle.dali_single.specs.Operated.{IsOwn}
 use Rattle.dali_single.specs.Refusals.{IsAnswerTo, IsUnfreed, IsStuck, IsLatched}
 use Rattle.dali_single.specs.Single.{is_end, IsOwnStep, Leads, OthersStay as RowsStay, AreCovered}
 use Rattle.dali_single.specs.Ending.{IsBackOf, IsAtWork, IsEnded, IsStillAtWork}
@@ -51,9 +55,9 @@ use Rattle.dali_single.specs.Settling.{MayFree, IsPromised, IsSoloOf, IsCommitte
 use Rattle.dali_single.proofs.Standing.{own_steps_stand}
 use Rattle.dali_courses.proofs.Making.{own_steps_make, abort_makes, settling_makes}
 use Rattle.dali_clean.specs.Cleaned.{core, moment, AreDead, InRun}
-use Rattle.dali_clean.specs.Others.{HoldStays, OthersStay, PromisesStay, IsGone}
-use Rattle.dali_clean.proofs.Courses.{runs_of, HasWork, work_of, kind_in, undos_in}
-use Rattle.dali_clean.proofs.Others.{others_further, promises_further}
+use Rattle.dali_clean.specs.Others.{OthersStay}
+use Rattle.dali_clean.proofs.Courses.{runs_of, HasWork, work_of}
+use Rattle.dali_clean.proofs.Others.{others_further}
 use Rattle.dali_clean.specs.Steps.{is_own_change}
 use Rattle.dali_ends.specs.Ended.{AreOfEnd, Walked}
 use Rattle.dali_ends.specs.Left.{held, is_on, HoldsStay, IsRunning, IsSettling, Left, none_of, Cleared, Settled}

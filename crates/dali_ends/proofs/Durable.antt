@@ -25,6 +25,7 @@ use Rattle.dali_facts.specs.Ends.{IsEnding}
 use Rattle.dali_facts.proofs.Ends.{commit_follows, commit_is_step}
 use Rattle.dali_crash.specs.Checkpoints.{Point, Does, IsPointCourse, moment_of}
 use Rattle.dali_crash.specs.Traces.{Start, bases_of}
+use Rattle.dali_crash.proofs.Courses.{flush_logs_none}
 use Rattle.dali_vault.specs.Vaulted.{Vaulted}
 use Rattle.dali_vault.specs.declared.error.VaultError.{VaultError}
 use Rattle.dali_vault.specs.declared.error.VaultError.TheVariants.{Fault as VaultFault, Stopped as VaultStopped}
@@ -32,12 +33,13 @@ use Rattle.dali_store.specs.Calls.{fewer}
 use Rattle.dali_core.specs.Served.{Served}
 use Rattle.dali_steps.specs.Courses.{WentOn}
 use Rattle.dali_steps.proofs.Courses.{quiet_course}
+use Rattle.dali_calls.proofs.Rows.{undos_in}
 use Rattle.dali_single.specs.Stands.{core as core_of}
 use Rattle.dali_single.specs.Single.{MayCall, OthersStay as RowsStay}
 use Rattle.dali_single.specs.Settling.{MayFree, MayCommit, Commits, IsSoloOf}
 use Rattle.dali_clean.specs.Cleaned.{core, moment, AreDead}
 use Rattle.dali_clean.specs.Others.{OthersStay}
-use Rattle.dali_clean.proofs.Courses.{runs_of, undos_in}
+use Rattle.dali_clean.proofs.Courses.{runs_of}
 use Rattle.dali_clean.proofs.Others.{others_further}
 use Rattle.dali_steps.proofs.Frames.{longer_faults}
 use Rattle.dali_whole.specs.Flushed.{AllFlushed, FlushesAll, HasStopped, FlushFails}
@@ -54,9 +56,6 @@ use Rattle.dali_ends.proofs.Standing.{moment_here, run_at, come}
 -- ---- courses of points that flush
 flush_course : (p q : Point) → IsPointCourse p (Does Takes ∷ Does Flushes ∷ []) q → IsCourse (moment_of p) (Takes ∷ Flushes ∷ []) (moment_of q)
 flush_course p q c = (moment_of c.0, c.1.1, (moment_of c.2.0, c.2.1.1, ap moment_of c.2.2))
-
-pub flush_logs_none : (p q : Point) → IsPointCourse p (Does Takes ∷ Does Flushes ∷ []) q → q.log ≡ p.log
-flush_logs_none p q c = ap (λ (x : Point). x.log) (sym c.2.2) ∙ (c.2.1.1.0.1.0 ∙ c.1.1.0.0)
 
 fault_course : (p q : Point) (n : ℕ) → IsPointCourse p (Does Takes ∷ Does (Faults n) ∷ Does Stops ∷ []) q → IsCourse (moment_of p) (Takes ∷ Faults n ∷ Stops ∷ []) (moment_of q)
 fault_course p q n c = (moment_of c.0, c.1.1, (moment_of c.2.0, c.2.1.1, (moment_of c.2.2.0, c.2.2.1.1, ap moment_of c.2.2.2)))

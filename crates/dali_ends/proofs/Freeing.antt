@@ -25,10 +25,11 @@ use Rattle.dali_facts.proofs.Ends.{end_is_step}
 use Rattle.dali_crash.specs.Traces.{bases_of}
 use Rattle.dali_vault.specs.Vaulted.{Vaulted}
 use Rattle.dali_core.specs.Served.{Served}
+use Rattle.dali_calls.proofs.Operating.{steps_on}
+use Rattle.dali_calls.proofs.Others.{holds_put}
 use Rattle.dali_single.specs.Operated.{IsLeftOf}
 use Rattle.dali_single.specs.Settling.{MayFree, IsSoloOf, IsCommitted, IsLeft, Freed}
-use Rattle.dali_single.proofs.Holding.{holds_put}
-use Rattle.dali_single.proofs.Leading.{leads_there, steps_on}
+use Rattle.dali_single.proofs.Leading.{leads_there}
 use Rattle.dali_single.proofs.Settled.{freed_led}
 use Rattle.std.proofs.lemmas.Bool.{and_parts}
 use Rattle.dali_lists.proofs.Lists.{set_same}

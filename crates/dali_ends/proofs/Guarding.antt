@@ -16,8 +16,8 @@ use Rattle.dali_system.specs.Run.{covers}
 use Rattle.dali_system.specs.Wholes.{is_of_kind}
 use Rattle.dali_facts.specs.Undos.{MayBePerformed}
 use Rattle.dali_core.specs.Rows.{AreRows}
+use Rattle.dali_calls.proofs.Rows.{undos_in}
 use Rattle.dali_clean.specs.Cleaned.{AreDead}
-use Rattle.dali_clean.proofs.Courses.{undos_in}
 use Rattle.dali_ends.specs.Guards.{is_covered, is_releasable, is_releasable_on}
 
 -- ---- holds

@@ -23,13 +23,15 @@ use Rattle.dali_system.specs.Wholes.{latched_in}
 use Rattle.dali_system.specs.Courses.{Step, Claims, Recovers, GivesBack, Moment, IsCourse}
 use Rattle.dali_system.proofs.Deaths.{region_with}
 use Rattle.dali_core.specs.Served.{Served}
+use Rattle.dali_calls.specs.Others.{HoldStays}
+use Rattle.dali_calls.proofs.Rows.{row_here, row_apart}
+use Rattle.dali_calls.proofs.Operating.{held_of}
+use Rattle.dali_calls.proofs.Others.{promises_same}
 use Rattle.dali_clean.specs.Undone.{IsReclaimed, Released}
 use Rattle.dali_clean.specs.Cleaned.{core, moment, AreDead, InRun}
-use Rattle.dali_clean.specs.Others.{HoldStays}
-use Rattle.dali_clean.proofs.Courses.{row_here, row_there, held_of}
 use Rattle.dali_clean.proofs.Cleaning.{if_some_by, state_mapped}
 use Rattle.dali_clean.proofs.Steps.{dead_apart}
-use Rattle.dali_clean.proofs.Others.{release_others, released_locks, promises_same}
+use Rattle.dali_clean.proofs.Others.{release_others, released_locks}
 use Rattle.dali_ends.specs.Ended.{AreOfEnd, Walks}
 use Rattle.dali_ends.specs.Left.{held, none_of, Cleared}
 use Rattle.dali_ends.proofs.Guarding.{clash}
@@ -172,7 +174,7 @@ apart_row y u t o alive was = by_test (u == t) refl
     by_test true e =
         let dead : is_alive (state_of y t) ≡ false = ap (λ (n : ℕ). is_alive (state_of y n)) (sym ((Decides-eqb u t).0 e)) ∙ ap is_alive was in
         absurd (clash dead alive)
-    by_test false e = row_there (in_state y u (Cleaning o)).table u t (with_state (Dead None)) e ∙ row_there y.table u t (with_state (Cleaning o)) e
+    by_test false e = row_apart (in_state y u (Cleaning o)).table u t (with_state (Dead None)) e ∙ row_apart y.table u t (with_state (Cleaning o)) e
 
 pub released_row : (y z : SystemState) (t : ℕ) (g h : RegionState) → is_alive (state_of y t) ≡ true → Released g y h z → row_of z t ≡ row_of y t
 released_row y z t g h alive (inl none) = ap (λ (x : SystemState). row_of x t) none.2

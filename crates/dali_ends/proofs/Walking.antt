@@ -20,11 +20,13 @@ use Rattle.dali_system.specs.Passes.{Audits}
 use Rattle.dali_system.specs.Courses.{Step, Operates, TakesBack, Frees, Ends, Locks, OnRegion, Claims, GivesBack, Recovers, Moment, IsStep, IsCourse}
 use Rattle.dali_system.proofs.Touching.{join}
 use Rattle.dali_steps.specs.Courses.{is_quiet}
+use Rattle.dali_calls.specs.Others.{is_apart, is_apart_on}
+use Rattle.dali_calls.proofs.Rows.{row_apart}
 use Rattle.dali_clean.specs.Cleaned.{moment, AreDead, InRun}
-use Rattle.dali_clean.specs.Steps.{is_own_change, is_apart, is_apart_on, AreBeside}
+use Rattle.dali_clean.specs.Steps.{is_own_change, AreBeside}
 use Rattle.dali_clean.proofs.Lists.{append_twice}
-use Rattle.dali_clean.proofs.Courses.{in_run_on, row_there}
-use Rattle.dali_clean.proofs.Steps.{apart_change, dead_apart, region_leaves, recover_leaves, back_leaves, claim_leaves, give_leaves}
+use Rattle.dali_clean.proofs.Courses.{in_run_on}
+use Rattle.dali_clean.proofs.Steps.{apart_change, apart_recovery, region_leaves, recover_leaves, back_leaves}
 use Rattle.dali_ends.specs.Ended.{AreOfEnd, ends_of, Walked, Walks}
 
 -- ---- lists
@@ -154,7 +156,7 @@ module _ (u : ℕ) (L M : List Record) (c d : CoreState) where
     where
       kept : (o : Option Undo) → state_in (map.get (undo_kept c.system.table v b o) u) ≡ state_of c.system u
       kept None = refl
-      kept (Some w) = ap state_in (row_there c.system.table v u (with_undo (pending b w)) apart)
+      kept (Some w) = ap state_in (row_apart c.system.table v u (with_undo (pending b w)) apart)
 
 -- none is one of another transaction that is alive
 front_apart : (t u : ℕ) (m n : Moment) (xs ys : List Step) → (t == u) ≡ false → is_alive (state_of m.core.system u) ≡ true → AreOfEnd t xs → list_all (is_apart u) ys ≡ true → IsCourse m (xs ++ ys) n
@@ -180,15 +182,8 @@ front_apart t u m n (Locks v k o ∷ xs) ys apart alive p last course =
     and_from (not (v == u)) _ (not_from_false (v == u) other)
     (front_apart t u course.0 n xs ys apart (ap (λ (e : CoreState). is_alive (state_of e.system u)) course.1.0.2.1 ∙ alive) p.1 last course.2)
 front_apart t u m n (Claims v ∷ Recovers r ∷ GivesBack w o ∷ xs) ys apart alive p last course =
-    let m1 = course.0 in
-    let m2 = course.2.0 in
-    let m3 = course.2.2.0 in
-    let other : (v == u) ≡ false = dead_apart m.core.system v u course.1.0.0 course.1.0.1 alive in
-    let other2 : (w == u) ≡ false = ap (λ (k : ℕ). k == u) p.1 ∙ other in
-    let alive1 = ap is_alive (claim_leaves u m.log m1.log m.core m1.core v other course.1.0) ∙ alive in
-    let alive2 = ap is_alive (recover_leaves u m1.log m2.log m1.core m2.core r course.2.1.0) ∙ alive1 in
-    let alive3 = ap is_alive (give_leaves u m2.log m3.log m2.core m3.core w o other2 course.2.2.1.0) ∙ alive2 in
-    and_from (not (v == u)) _ (not_from_false (v == u) other) (and_from (not (w == u)) _ (not_from_false (w == u) other2) (front_apart t u m3 n xs ys apart alive3 p.3 last course.2.2.2))
+    let a = apart_recovery u v w r o m course.0 course.2.0 course.2.2.0 alive p.1 course.1.0 course.2.1.0 course.2.2.1.0 in
+    and_from (not (v == u)) _ (not_from_false (v == u) a.0) (and_from (not (w == u)) _ (not_from_false (w == u) a.1) (front_apart t u course.2.2.0 n xs ys apart a.2 p.3 last course.2.2.2))
 front_apart t u m n (Recovers r ∷ xs) ys apart alive p last course =
     front_apart t u course.0 n xs ys apart (ap is_alive (recover_leaves u m.log course.0.log m.core course.0.core r course.1.0) ∙ alive) p last course.2
 front_apart t u m n (x ∷ xs) ys apart alive p last course = absurd p

@@ -20,9 +20,10 @@ use Rattle.dali_system.specs.Passes.{Audits}
 use Rattle.dali_facts.specs.Ends.{IsEnding}
 use Rattle.dali_core.specs.Promised.{promised_to}
 use Rattle.dali_core.specs.Served.{Served}
+use Rattle.dali_calls.specs.Others.{PromisesStay, IsGone}
 use Rattle.dali_single.specs.Settling.{IsSoloOf}
 use Rattle.dali_clean.specs.Cleaned.{moment, AreDead, InRun}
-use Rattle.dali_clean.specs.Others.{OthersStay, PromisesStay, IsGone}
+use Rattle.dali_clean.specs.Others.{OthersStay}
 use Rattle.dali_ends.specs.Ended.{Walked, Walks}
 
 pub record IsRunning (gs : List RegionState) (y : SystemState) : Type 0 where

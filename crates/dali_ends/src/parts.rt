@@ -8,9 +8,10 @@ ghost use Rattle.dali_att.specs.declared.state.State.TheVariants.{Live, Committe
 ghost use Rattle.dali_system.specs.State.{state_of};
 ghost use Rattle.dali_core.specs.Promised.{promised_to};
 ghost use Rattle.dali_calls.specs.Flags.{FlagsStay};
+ghost use Rattle.dali_calls.specs.Others.{IsGone};
 ghost use Rattle.dali_single.specs.Ending.{IsBackOf};
 ghost use Rattle.dali_single.specs.Settling.{MayFree, IsPromised, settle_room};
-ghost use Rattle.dali_clean.specs.Others.{OthersStay, IsGone};
+ghost use Rattle.dali_clean.specs.Others.{OthersStay};
 ghost use Rattle.dali_ends.specs.declared.error.AbortError.TheVariants.{OutOfMemory};
 ghost use Rattle.dali_att.specs.Table.{undos_at};
 ghost use Rattle.dali_ends.specs.Left.{HoldsStay, IsRunning, Left, none_of, FreesIn, Settled};
@@ -74,6 +75,9 @@ pub fn free_removals(regions: &mut [Region], system: &mut System, txn: u64, remo
 }
 
 /// Frees for good one removal of a committed transaction. Where that is refused nothing is logged.
+///
+/// The removal is the transaction's own, the regions are all that the system has, and no client that is alive has latched the
+/// removal's: `guards::may_free` tells.
 pub fn free_one(
     regions: &mut [Region],
     system: &mut System,

@@ -8,9 +8,10 @@ use Rattle.dali_record.specs.declared.records.Answer.TheVariants.{Ok as AnswerOk
 use Rattle.dali_record.specs.declared.records.Record.{Record}
 use Rattle.dali_record.specs.declared.records.Record.TheVariants.{Format, Begin, Forward, Done, Commit, Ended, Solo, AuditBegin, AuditClean, AuditFail, Restarted, Back}
 
--- transaction 3 reads a damaged word and then inserts key 6, which 5 reads; 4 updates key 5 and survives
-abbrev pub chain_log : List Record
-chain_log =
+-- ---- the first records, in front of the rest
+-- transaction 1 inserts key 4
+abbrev pub one_insert : List Record → List Record
+one_insert rest =
     (Format 2 3) ∷
     (Begin 1) ∷
     (Forward 1 (record { key = 4; region = 0; op = Look; read = 0x2492492492492493; xor = 0x0; write = 0x0; after = []; outcome = (Absent false); undo = None })) ∷
@@ -18,8 +19,13 @@ chain_log =
     (Forward 1 (record { key = 4; region = 0; op = (Add 25); read = 0xe; xor = 0x0; write = 0xe; after = (1 ∷ 4 ∷ 25 ∷ []); outcome = (Added 0); undo = (Some (UndoFreeEntry 0)) })) ∷
     (Done 1 (Insert 4 (97 ∷ 98 ∷ 99 ∷ [])) AnswerOk) ∷
     (Commit 1) ∷
-    (Ended 1) ∷
-    (Begin 2) ∷
+    (Ended 1) ∷ rest
+
+-- and 2 key 5, an audit is clean, and transaction 3 begins
+abbrev pub two_inserts : List Record → List Record
+two_inserts rest =
+    one_insert
+    ((Begin 2) ∷
     (Forward 2 (record { key = 5; region = 1; op = Look; read = 0x2492492492492493; xor = 0x0; write = 0x0; after = []; outcome = (Absent false); undo = None })) ∷
     (Forward 2 (record { key = 5; region = 4; op = (Put (120 ∷ 121 ∷ 122 ∷ [])); read = 0xff00; xor = 0x0; write = 0xff00; after = (1 ∷ 5 ∷ 3 ∷ 8681103897151930368 ∷ 0 ∷ 0 ∷ 0 ∷ 0 ∷ []); outcome = (PutIn 1); undo = (Some (UndoFreeCell 1)) })) ∷
     (Forward 2 (record { key = 5; region = 1; op = (Add 33); read = 0xe; xor = 0x0; write = 0xe; after = (1 ∷ 5 ∷ 33 ∷ []); outcome = (Added 0); undo = (Some (UndoFreeEntry 0)) })) ∷
@@ -28,8 +34,24 @@ chain_log =
     (Ended 2) ∷
     AuditBegin ∷
     (AuditClean 15) ∷
-    (Begin 3) ∷
-    (Forward 3 (record { key = 4; region = 0; op = Look; read = 0xe; xor = 0x1c; write = 0x0; after = []; outcome = (Found 0 25); undo = None })) ∷
+    (Begin 3) ∷ rest)
+
+-- transaction 1 inserts key 5, in an engine of one region of each kind
+abbrev pub small_insert : List Record → List Record
+small_insert rest =
+    (Format 1 1) ∷
+    (Begin 1) ∷
+    (Forward 1 (record { key = 5; region = 0; op = Look; read = 0x2492492492492493; xor = 0x0; write = 0x0; after = []; outcome = (Absent false); undo = None })) ∷
+    (Forward 1 (record { key = 5; region = 1; op = (Put (97 ∷ 98 ∷ 99 ∷ [])); read = 0xff00; xor = 0x0; write = 0xff00; after = (1 ∷ 5 ∷ 3 ∷ 7017280021047803904 ∷ 0 ∷ 0 ∷ 0 ∷ 0 ∷ []); outcome = (PutIn 1); undo = (Some (UndoFreeCell 1)) })) ∷
+    (Forward 1 (record { key = 5; region = 0; op = (Add 9); read = 0xe; xor = 0x0; write = 0xe; after = (1 ∷ 5 ∷ 9 ∷ []); outcome = (Added 0); undo = (Some (UndoFreeEntry 0)) })) ∷
+    (Done 1 (Insert 5 (97 ∷ 98 ∷ 99 ∷ [])) AnswerOk) ∷ rest
+
+-- ---- the logs
+-- transaction 3 reads a damaged word and then inserts key 6, which 5 reads; 4 updates key 5 and survives
+abbrev pub chain_log : List Record
+chain_log =
+    two_inserts
+    ((Forward 3 (record { key = 4; region = 0; op = Look; read = 0xe; xor = 0x1c; write = 0x0; after = []; outcome = (Found 0 25); undo = None })) ∷
     (Forward 3 (record { key = 4; region = 3; op = (Read 1); read = 0xff00; xor = 0x6062630000000006; write = 0x0; after = []; outcome = (Value (96 ∷ 98 ∷ 99 ∷ [])); undo = None })) ∷
     (Done 3 (Get 4) (Got (96 ∷ 98 ∷ 99 ∷ []))) ∷
     (Forward 3 (record { key = 6; region = 0; op = Look; read = 0x2492492492492497; xor = 0x5; write = 0x0; after = []; outcome = (Absent false); undo = None })) ∷
@@ -51,30 +73,13 @@ chain_log =
     (Commit 5) ∷
     (Ended 5) ∷
     AuditBegin ∷
-    (AuditFail 39 (3 ∷ [])) ∷ []
+    (AuditFail 39 (3 ∷ [])) ∷ [])
 
 -- transaction 3 updates key 5 before it reads a damaged word; 4 reads key 5
 abbrev pub undone_change_log : List Record
 undone_change_log =
-    (Format 2 3) ∷
-    (Begin 1) ∷
-    (Forward 1 (record { key = 4; region = 0; op = Look; read = 0x2492492492492493; xor = 0x0; write = 0x0; after = []; outcome = (Absent false); undo = None })) ∷
-    (Forward 1 (record { key = 4; region = 3; op = (Put (97 ∷ 98 ∷ 99 ∷ [])); read = 0xff00; xor = 0x0; write = 0xff00; after = (1 ∷ 4 ∷ 3 ∷ 7017280021047803904 ∷ 0 ∷ 0 ∷ 0 ∷ 0 ∷ []); outcome = (PutIn 1); undo = (Some (UndoFreeCell 1)) })) ∷
-    (Forward 1 (record { key = 4; region = 0; op = (Add 25); read = 0xe; xor = 0x0; write = 0xe; after = (1 ∷ 4 ∷ 25 ∷ []); outcome = (Added 0); undo = (Some (UndoFreeEntry 0)) })) ∷
-    (Done 1 (Insert 4 (97 ∷ 98 ∷ 99 ∷ [])) AnswerOk) ∷
-    (Commit 1) ∷
-    (Ended 1) ∷
-    (Begin 2) ∷
-    (Forward 2 (record { key = 5; region = 1; op = Look; read = 0x2492492492492493; xor = 0x0; write = 0x0; after = []; outcome = (Absent false); undo = None })) ∷
-    (Forward 2 (record { key = 5; region = 4; op = (Put (120 ∷ 121 ∷ 122 ∷ [])); read = 0xff00; xor = 0x0; write = 0xff00; after = (1 ∷ 5 ∷ 3 ∷ 8681103897151930368 ∷ 0 ∷ 0 ∷ 0 ∷ 0 ∷ []); outcome = (PutIn 1); undo = (Some (UndoFreeCell 1)) })) ∷
-    (Forward 2 (record { key = 5; region = 1; op = (Add 33); read = 0xe; xor = 0x0; write = 0xe; after = (1 ∷ 5 ∷ 33 ∷ []); outcome = (Added 0); undo = (Some (UndoFreeEntry 0)) })) ∷
-    (Done 2 (Insert 5 (120 ∷ 121 ∷ 122 ∷ [])) AnswerOk) ∷
-    (Commit 2) ∷
-    (Ended 2) ∷
-    AuditBegin ∷
-    (AuditClean 15) ∷
-    (Begin 3) ∷
-    (Forward 3 (record { key = 5; region = 1; op = Look; read = 0xe; xor = 0x25; write = 0x0; after = []; outcome = (Found 0 33); undo = None })) ∷
+    two_inserts
+    ((Forward 3 (record { key = 5; region = 1; op = Look; read = 0xe; xor = 0x25; write = 0x0; after = []; outcome = (Found 0 33); undo = None })) ∷
     (Forward 3 (record { key = 5; region = 4; op = (Change 1 (113 ∷ [])); read = 0xff00; xor = 0x78797a0000000007; write = 0xfc00; after = (1 ∷ 8142508126285856768 ∷ 0 ∷ 0 ∷ 0 ∷ 0 ∷ []); outcome = Changed; undo = (Some (UndoRestore 1 3 (8681103897151930368 ∷ 0 ∷ 0 ∷ 0 ∷ 0 ∷ []))) })) ∷
     (Done 3 (Update 5 (113 ∷ [])) AnswerOk) ∷
     (Forward 3 (record { key = 4; region = 0; op = Look; read = 0xe; xor = 0x1c; write = 0x0; after = []; outcome = (Found 0 25); undo = None })) ∷
@@ -89,20 +94,13 @@ undone_change_log =
     (Commit 4) ∷
     (Ended 4) ∷
     AuditBegin ∷
-    (AuditFail 32 (3 ∷ [])) ∷ []
+    (AuditFail 32 (3 ∷ [])) ∷ [])
 
 -- transaction 2 updates a value of which a word is damaged
 abbrev pub damaged_writer_log : List Record
 damaged_writer_log =
-    (Format 2 3) ∷
-    (Begin 1) ∷
-    (Forward 1 (record { key = 4; region = 0; op = Look; read = 0x2492492492492493; xor = 0x0; write = 0x0; after = []; outcome = (Absent false); undo = None })) ∷
-    (Forward 1 (record { key = 4; region = 3; op = (Put (97 ∷ 98 ∷ 99 ∷ [])); read = 0xff00; xor = 0x0; write = 0xff00; after = (1 ∷ 4 ∷ 3 ∷ 7017280021047803904 ∷ 0 ∷ 0 ∷ 0 ∷ 0 ∷ []); outcome = (PutIn 1); undo = (Some (UndoFreeCell 1)) })) ∷
-    (Forward 1 (record { key = 4; region = 0; op = (Add 25); read = 0xe; xor = 0x0; write = 0xe; after = (1 ∷ 4 ∷ 25 ∷ []); outcome = (Added 0); undo = (Some (UndoFreeEntry 0)) })) ∷
-    (Done 1 (Insert 4 (97 ∷ 98 ∷ 99 ∷ [])) AnswerOk) ∷
-    (Commit 1) ∷
-    (Ended 1) ∷
-    AuditBegin ∷
+    one_insert
+    (AuditBegin ∷
     (AuditClean 8) ∷
     (Begin 2) ∷
     (Forward 2 (record { key = 4; region = 0; op = Look; read = 0xe; xor = 0x1c; write = 0x0; after = []; outcome = (Found 0 25); undo = None })) ∷
@@ -111,18 +109,13 @@ damaged_writer_log =
     (Commit 2) ∷
     (Ended 2) ∷
     AuditBegin ∷
-    (AuditFail 16 (3 ∷ [])) ∷ []
+    (AuditFail 16 (3 ∷ [])) ∷ [])
 
 -- a delete and an insert that are aborted, a get, and a delete that is committed
 abbrev pub abort_log : List Record
 abort_log =
-    (Format 1 1) ∷
-    (Begin 1) ∷
-    (Forward 1 (record { key = 5; region = 0; op = Look; read = 0x2492492492492493; xor = 0x0; write = 0x0; after = []; outcome = (Absent false); undo = None })) ∷
-    (Forward 1 (record { key = 5; region = 1; op = (Put (97 ∷ 98 ∷ 99 ∷ [])); read = 0xff00; xor = 0x0; write = 0xff00; after = (1 ∷ 5 ∷ 3 ∷ 7017280021047803904 ∷ 0 ∷ 0 ∷ 0 ∷ 0 ∷ []); outcome = (PutIn 1); undo = (Some (UndoFreeCell 1)) })) ∷
-    (Forward 1 (record { key = 5; region = 0; op = (Add 9); read = 0xe; xor = 0x0; write = 0xe; after = (1 ∷ 5 ∷ 9 ∷ []); outcome = (Added 0); undo = (Some (UndoFreeEntry 0)) })) ∷
-    (Done 1 (Insert 5 (97 ∷ 98 ∷ 99 ∷ [])) AnswerOk) ∷
-    (Commit 1) ∷
+    small_insert
+    ((Commit 1) ∷
     (Ended 1) ∷
     (Begin 2) ∷
     (Forward 2 (record { key = 5; region = 0; op = Look; read = 0xe; xor = 0xd; write = 0x0; after = []; outcome = (Found 0 9); undo = None })) ∷
@@ -152,7 +145,7 @@ abort_log =
     (Commit 4) ∷
     (Solo 5 4 (record { key = 5; region = 1; op = (FreeCell 1); read = 0x100; xor = 0x2; write = 0x100; after = (0 ∷ []); outcome = Undone; undo = None })) ∷
     (Solo 6 4 (record { key = 5; region = 0; op = (FreeEntry 0); read = 0x2; xor = 0x2; write = 0x2; after = (0 ∷ []); outcome = Undone; undo = None })) ∷
-    (Ended 4) ∷ []
+    (Ended 4) ∷ [])
 
 -- inserts until the heap is full; a deleted cell stays reserved up to the commit
 abbrev pub full_log : List Record
@@ -253,27 +246,17 @@ taken_back_log =
 -- an insert that was answered is taken back, and then committed
 abbrev pub taken_back_whole_log : List Record
 taken_back_whole_log =
-    (Format 1 1) ∷
-    (Begin 1) ∷
-    (Forward 1 (record { key = 5; region = 0; op = Look; read = 0x2492492492492493; xor = 0x0; write = 0x0; after = []; outcome = (Absent false); undo = None })) ∷
-    (Forward 1 (record { key = 5; region = 1; op = (Put (97 ∷ 98 ∷ 99 ∷ [])); read = 0xff00; xor = 0x0; write = 0xff00; after = (1 ∷ 5 ∷ 3 ∷ 7017280021047803904 ∷ 0 ∷ 0 ∷ 0 ∷ 0 ∷ []); outcome = (PutIn 1); undo = (Some (UndoFreeCell 1)) })) ∷
-    (Forward 1 (record { key = 5; region = 0; op = (Add 9); read = 0xe; xor = 0x0; write = 0xe; after = (1 ∷ 5 ∷ 9 ∷ []); outcome = (Added 0); undo = (Some (UndoFreeEntry 0)) })) ∷
-    (Done 1 (Insert 5 (97 ∷ 98 ∷ 99 ∷ [])) AnswerOk) ∷
-    (Back 1 (record { key = 5; region = 0; op = (FreeEntry 0); read = 0x2; xor = 0x1; write = 0x2; after = (0 ∷ []); outcome = Undone; undo = None })) ∷
+    small_insert
+    ((Back 1 (record { key = 5; region = 0; op = (FreeEntry 0); read = 0x2; xor = 0x1; write = 0x2; after = (0 ∷ []); outcome = Undone; undo = None })) ∷
     (Back 1 (record { key = 5; region = 1; op = (FreeCell 1); read = 0x100; xor = 0x1; write = 0x100; after = (0 ∷ []); outcome = Undone; undo = None })) ∷
-    (Commit 1) ∷ []
+    (Commit 1) ∷ [])
 
 -- the same, where its entry alone is taken back
 abbrev pub taken_back_half_log : List Record
 taken_back_half_log =
-    (Format 1 1) ∷
-    (Begin 1) ∷
-    (Forward 1 (record { key = 5; region = 0; op = Look; read = 0x2492492492492493; xor = 0x0; write = 0x0; after = []; outcome = (Absent false); undo = None })) ∷
-    (Forward 1 (record { key = 5; region = 1; op = (Put (97 ∷ 98 ∷ 99 ∷ [])); read = 0xff00; xor = 0x0; write = 0xff00; after = (1 ∷ 5 ∷ 3 ∷ 7017280021047803904 ∷ 0 ∷ 0 ∷ 0 ∷ 0 ∷ []); outcome = (PutIn 1); undo = (Some (UndoFreeCell 1)) })) ∷
-    (Forward 1 (record { key = 5; region = 0; op = (Add 9); read = 0xe; xor = 0x0; write = 0xe; after = (1 ∷ 5 ∷ 9 ∷ []); outcome = (Added 0); undo = (Some (UndoFreeEntry 0)) })) ∷
-    (Done 1 (Insert 5 (97 ∷ 98 ∷ 99 ∷ [])) AnswerOk) ∷
-    (Back 1 (record { key = 5; region = 0; op = (FreeEntry 0); read = 0x2; xor = 0x1; write = 0x2; after = (0 ∷ []); outcome = Undone; undo = None })) ∷
-    (Commit 1) ∷ []
+    small_insert
+    ((Back 1 (record { key = 5; region = 0; op = (FreeEntry 0); read = 0x2; xor = 0x1; write = 0x2; after = (0 ∷ []); outcome = Undone; undo = None })) ∷
+    (Commit 1) ∷ [])
 
 -- an insert is taken back, and then answered Ok
 abbrev pub answered_after_log : List Record

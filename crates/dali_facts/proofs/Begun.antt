@@ -13,10 +13,10 @@ use Rattle.dali_record.specs.Log.{begin_by, begun, ended_by, ended, last_of}
 use Rattle.dali_record.specs.Epochs.{Cut, cut, cut_step, last_epoch}
 use Rattle.dali_record.specs.Damage.{has}
 use Rattle.dali_record.specs.Calls.{Progress, Fresh, follow}
-use Rattle.dali_record.specs.Legal.{TxnState, Unbegun, Active, Committed as Ending, Over, Working, txn_state, txn_next, txn_step, allowed, either_state, goes_on, starts, forward, back, is_onward, is_level, is_answer, is_none_left, dead_of, freed, rested, Rules, rules_state, rules_next}
+use Rattle.dali_record.specs.Legal.{TxnState, Unbegun, Active, Committed as Ending, Over, Working, txn_state, txn_next, txn_step, allowed, either_state, goes_on, starts, forward, back, is_onward, is_level, is_answer, is_none_left, dead_of, freed, rested, Rules, rules_state}
 use Rattle.dali_record.proofs.Ends.{by_push}
-use Rattle.dali_record.proofs.Pushes.{txn_state_push, rules_state_push, cut_push}
-use Rattle.dali_record.proofs.EpochRules.{format_first}
+use Rattle.dali_record.proofs.Pushes.{txn_state_push, cut_push}
+use Rattle.dali_record.proofs.EpochRules.{format_first, rules_before}
 use Rattle.dali_system.specs.State.{TxnRow}
 use Rattle.dali_system.specs.Run.{IsRow, is_running}
 use Rattle.dali_system.proofs.OneMore.{is_inside, step_inside}
@@ -199,10 +199,6 @@ stands_more s t o c x inside h =
     (subst (λ e. Stands (txn_next s t o x) (has (begun c.now.records) t || hits (begin_by x) t) e) (sym (filter_hits ended_by c.now.records x t))
     (st_inside s t o x (has (begun c.now.records) t) (has (ended c.now.records) t) inside h)))
 
-pub state_before : (s : Sizes) (o : Option Rules) (x : Record) (g : Rules) → rules_next s o x ≡ Some g → (h : Rules) × (o ≡ Some h)
-state_before s None x g e = absurd (cc)
-state_before s (Some h) x g e = (h, refl)
-
 at_format : (s : Sizes) (t : ℕ) (L : List Record) (i n : ℕ) → L ≡ [] → StandsCut s t (txn_state s t (L ++ Format i n ∷ [])) (cut (L ++ Format i n ∷ []))
 at_format s t [] i n e = (refl, refl)
 at_format s t (x ∷ L) i n e = absurd (cc)
@@ -212,14 +208,14 @@ stands_push s t L x ih g e = by_kind x e
   where
     more : (y : Record) → is_inside y ≡ true → rules_state s (L ++ y ∷ []) ≡ Some g → StandsCut s t (txn_state s t (L ++ y ∷ [])) (cut (L ++ y ∷ []))
     more y inside f =
-        let before : (h : Rules) × (rules_state s L ≡ Some h) = state_before s (rules_state s L) y g (sym (rules_state_push s L y) ∙ f) in
+        let before = rules_before s L y g f in
         subst (λ (c : Cut). StandsCut s t (txn_state s t (L ++ y ∷ [])) c) (sym (cut_push L y))
         (subst (λ o. StandsCut s t o (cut_step (cut L) y)) (sym (txn_state_push s t L y)) (stands_more s t (txn_state s t L) (cut L) y inside (ih before.0 before.1)))
 
     by_kind : (y : Record) → rules_state s (L ++ y ∷ []) ≡ Some g → StandsCut s t (txn_state s t (L ++ y ∷ [])) (cut (L ++ y ∷ []))
     by_kind (Format i n) f = at_format s t L i n (format_first s L i n g f)
     by_kind (Restarted rs ds) f =
-        let before : (h : Rules) × (rules_state s L ≡ Some h) = state_before s (rules_state s L) (Restarted rs ds) g (sym (rules_state_push s L (Restarted rs ds)) ∙ f) in
+        let before = rules_before s L (Restarted rs ds) g f in
         subst (λ (c : Cut). StandsCut s t (txn_state s t (L ++ Restarted rs ds ∷ [])) c) (sym (cut_push L (Restarted rs ds)))
         (subst (λ o. StandsCut s t o (cut_step (cut L) (Restarted rs ds))) (sym (txn_state_push s t L (Restarted rs ds)))
         (st_restart s t (txn_state s t L) rs ds (has (begun (last_epoch L).records) t) (has (ended (last_epoch L).records) t) (ih before.0 before.1)))

@@ -1,5 +1,5 @@
 -- Each undo of a row is that of a block of its transaction in the present epoch.
-use Rattle.std.proofs.Common.{◌≡◌, ℕ, Bool, true, false, cond, List, [], ◌∷◌, ◌++◌, Option, Some, None, refl, ap, sym, subst, ◌∙◌}
+use Rattle.std.proofs.Common.{◌≡◌, ℕ, Bool, true, false, cond, List, [], ◌∷◌, ◌++◌, Option, Some, None, refl, sym, subst, ◌∙◌}
 use Rattle.std.specs.Prelude.{◌==◌, ◌&&◌, not, ⊤, IsSome, length, slice_get}
 use Rattle.std.specs.List.{AllByRecursion}
 use Rattle.std.specs.Option.{option_map_or}
@@ -11,24 +11,22 @@ use Rattle.dali_record.specs.declared.operations.Pending.{Pending}
 use Rattle.dali_record.specs.declared.operations.Undo.{Undo}
 use Rattle.dali_record.specs.declared.records.Record.{Record}
 use Rattle.dali_record.specs.declared.records.Record.TheVariants.{Format, Begin, Forward, Done, Commit, Ended, Solo, AuditBegin, AuditClean, AuditFail, Restarted, Back}
-use Rattle.dali_record.specs.Blocks.{pending, changes_item}
+use Rattle.dali_record.specs.Blocks.{pending}
 use Rattle.dali_record.specs.Log.{Touch, touch_of, touch_at, undo_added, last_of, drop_last}
-use Rattle.dali_record.specs.Epochs.{Cut, cut, cut_step, last_epoch}
+use Rattle.dali_record.specs.Epochs.{Cut, cut, last_epoch}
 use Rattle.dali_record.specs.Calls.{Progress, Fresh, follow}
 use Rattle.dali_record.specs.Spelling.{CanBeSpelled, IsBlock, IsUndo, MayBeUndo, is_within, is_outcome_of, undoes}
-use Rattle.dali_record.specs.Legal.{TxnState, Unbegun, Active, Committed as Ending, Over, Working, txn_state, txn_next, txn_step, allowed, either_state, goes_on, starts, forward, back, is_onward, is_level, is_answer, is_none_left, dead_of, freed, rested, Rules, rules_state, on_kind}
+use Rattle.dali_record.specs.Legal.{TxnState, Unbegun, Active, Committed as Ending, Over, Working, txn_state, txn_next, allowed, either_state, goes_on, starts, forward, back, is_onward, is_level, is_answer, is_none_left, dead_of, freed, rested, Rules, rules_state}
 use Rattle.dali_record.proofs.Ends.{by_push}
-use Rattle.dali_record.proofs.Pushes.{txn_state_push, rules_state_push, cut_push, touch_old, touch_new, touch_within}
-use Rattle.dali_record.proofs.EpochRules.{format_first, EachTouch, IsOnKind, rules_kinds, touches_in_epochs}
+use Rattle.dali_record.proofs.Pushes.{txn_state_push, cut_push, touch_old, touch_new, touch_within}
+use Rattle.dali_record.proofs.EpochRules.{format_first, EachTouch, IsOnKind, rules_kinds, touches_in_epochs, rules_before}
 use Rattle.dali_record.proofs.Undos.{undo_changes}
 use Rattle.dali_record.proofs.Fronts.{touch_get}
-use Rattle.dali_att.specs.Table.{undos_at}
 use Rattle.dali_system.specs.State.{TxnRow, CoreState, row_of, lock_of}
 use Rattle.dali_system.specs.Run.{Bases, RunsOn, IsRow, covers, holds}
 use Rattle.dali_system.proofs.OneMore.{is_inside, step_inside}
 use Rattle.dali_system.proofs.UndoKinds.{undo_kind}
 use Rattle.dali_facts.specs.Undos.{MayBePerformed, UndosMayBePerformed}
-use Rattle.dali_facts.proofs.Begun.{state_before}
 use Rattle.dali_facts.proofs.KeysAndUndos.{holds_its_keys}
 
 record FromBlock (E : List Record) (t : ℕ) (u : Pending) : Type 0 where
@@ -184,7 +182,7 @@ comes_push s t L x ih g e = by_kind x e
   where
     more : (y : Record) → is_inside y ≡ true → rules_state s (L ++ y ∷ []) ≡ Some g → ComesCut t (txn_state s t (L ++ y ∷ [])) (cut (L ++ y ∷ []))
     more y is f =
-        let before : (h : Rules) × (rules_state s L ≡ Some h) = state_before s (rules_state s L) y g (sym (rules_state_push s L y) ∙ f) in
+        let before = rules_before s L y g f in
         subst (λ (c : Cut). ComesCut t (txn_state s t (L ++ y ∷ [])) c) (sym (cut_push L y ∙ step_inside (cut L) y is))
         (subst (λ o. Comes ((cut L).now.records ++ y ∷ []) t o) (sym (txn_state_push s t L y)) (inside s (cut L).now.records t (txn_state s t L) y is (ih before.0 before.1)))
 

@@ -1,8 +1,8 @@
--- The regions of the formatted image.
-use Rattle.std.proofs.Common.{◌≡◌, ℕ, ◌-◌, ◌<◌, ◌≤◌, Bool, true, false, List, [], ◌∷◌, length, replicate, get_or, refl, ◌∙◌, arith}
+-- The regions of the formatted image, and how many there are.
+use Rattle.std.proofs.Common.{◌≡◌, ℕ, ◌-◌, ◌<◌, ◌≤◌, Bool, true, false, List, [], ◌∷◌, ◌++◌, length, replicate, get_or, refl, ◌∙◌, arith}
 use Rattle.std.specs.Prelude.{nat_le}
 use Rattle.std.proofs.lemmas.Bool.Decides.{nat_tests}
-use Rattle.std.proofs.lemmas.List.{length-replicate, get_or-replicate, get_or_append_left, get_or-append_right}
+use Rattle.std.proofs.lemmas.List.{length-append, length-replicate, get_or-replicate, get_or_append_left, get_or-append_right}
 use Rattle.dali_geometry.specs.Sizes.{Sizes}
 use Rattle.dali_geometry.specs.Places.{regions, is_heap, formatted, formatted_image}
 
@@ -27,3 +27,10 @@ region_is_formatted s r below = by_kind (nat_le s.index r) refl
         let low : r < s.index = grind (arith, nat_tests) in
         let index : is_heap s r ≡ false = grind (arith, nat_tests) in
         rw index (get_or_append_left (replicate s.index zeros) (replicate s.heap heads) [] r (omega (arith, front)) ∙ get_or-replicate s.index r zeros [] low)
+
+pub length_formatted : (s : Sizes) → length (formatted_image s) ≡ regions s
+length_formatted s = parts (replicate 64 0) (1 ∷ replicate 63 0)
+  where
+    parts : (zeros heads : List ℕ) → length (replicate s.index zeros ++ replicate s.heap heads) ≡ regions s
+    parts zeros heads =
+        omega (arith, length-append (replicate s.index zeros) (replicate s.heap heads), length-replicate s.index zeros, length-replicate s.heap heads)

@@ -75,7 +75,7 @@ abbrev plain_row : {O : Type 0} (reads : List ℕ) (writes : List (ℕ × ℕ)) 
 plain_row reads writes o ws inside = record { reads = reads; writes = writes; out = o; inside = inside; gives = λ us g. refl }
 
 -- the words of a value agree
-value_same : (c : ℕ) (ws us : List ℕ) → Agree (cell_words c) ws us → value_of us c ≡ value_of ws c
+pub value_same : (c : ℕ) (ws us : List ℕ) → Agree (cell_words c) ws us → value_of us c ≡ value_of ws c
 value_same c ws us a = take_drop_same (8 * c + 3) 5 us ws (sym a.0) each
   where
     at : (i j : ℕ) → j ≡ 8 * c + 3 + i → IsIn (cell_words c) j → get_or us (8 * c + 3 + i) 0 ≡ get_or ws (8 * c + 3 + i) 0

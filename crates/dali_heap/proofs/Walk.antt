@@ -1,5 +1,5 @@
 -- The walk of a put over the cells.
-use Rattle.std.proofs.Common.{◌≡◌, ◌≢◌, ℕ, zero, suc, ◌+◌, ◌-◌, ◌*◌, ◌^◌, ◌<◌, ◌≤◌, true, false, cond, List, [], ◌∷◌, ◌++◌, length, take, drop, refl, ap, sym, ◌∙◌, arith, get_or, map}
+use Rattle.std.proofs.Common.{◌≡◌, ◌≢◌, ℕ, suc, ◌+◌, ◌-◌, ◌*◌, ◌^◌, ◌<◌, ◌≤◌, true, false, cond, List, [], ◌∷◌, ◌++◌, length, take, drop, refl, ap, sym, ◌∙◌, arith, get_or, map}
 use Rattle.std.specs.Prelude.{◌==◌, zip, bit_or}
 use Rattle.std.proofs.lemmas.Bool.Decides.{nat_tests, Decides-eqb}
 use Rattle.std.proofs.lemmas.List.{drop_more, take_more, map-append}
@@ -19,14 +19,8 @@ count_cells = refl
 
 cell_at_index : (i : ℕ) → i < 7 → get_or cells i 0 ≡ i + 1
 unfolding cells
-cell_at_index zero h = refl
-cell_at_index (suc zero) h = refl
-cell_at_index (suc (suc zero)) h = refl
-cell_at_index (suc (suc (suc zero))) h = refl
-cell_at_index (suc (suc (suc (suc zero)))) h = refl
-cell_at_index (suc (suc (suc (suc (suc zero))))) h = refl
-cell_at_index (suc (suc (suc (suc (suc (suc zero)))))) h = refl
 cell_at_index (suc (suc (suc (suc (suc (suc (suc i))))))) h = absurd (omega arith)
+cell_at_index _ h = refl
 
 cell_is : (c : ℕ) → 1 ≤ c → c < 8 → get_or cells (c - 1) 0 ≡ c
 cell_is c low high = let e : c - 1 + 1 ≡ c = omega arith in cell_at_index (c - 1) (omega arith) ∙ e

@@ -33,7 +33,7 @@ length-by_test : (b : Bool) (xs ys : List ℕ) (n : ℕ) → length xs ≡ n →
 length-by_test true xs ys n e f = e
 length-by_test false xs ys n e f = f
 
-length-free_words : (is ws : List ℕ) → length (fold free_word ws is) ≡ length ws
+pub length-free_words : (is ws : List ℕ) → length (fold free_word ws is) ≡ length ws
 length-free_words [] ws = refl
 length-free_words (i ∷ is) ws = length-free_words is (free_word ws i) ∙ length-by_test (slice_index ws i == 2) (slice_set ws i 0) ws (length ws) (length-set ws i 0) refl
 

@@ -1,6 +1,7 @@
 pub mod ByKey
 pub mod Places
 pub mod Members
+pub mod Rising
 pub mod Spelled
 pub mod Images
 pub mod Formatted

@@ -5,7 +5,7 @@ use Rattle.std.proofs.lemmas.List.Folds.{fold_stays}
 use Rattle.std.proofs.lemmas.Bool.{both_ways, or_cases}
 use Rattle.std.proofs.lemmas.Bool.Decides.{Decides-eqb}
 use Rattle.dali_record.specs.declared.records.Call.{Call}
-use Rattle.dali_record.specs.declared.records.Call.TheVariants.{Insert, Update, Delete, Get}
+use Rattle.dali_record.specs.declared.records.Call.TheVariants.{Insert}
 use Rattle.dali_record.specs.declared.records.Answer.{Answer}
 use Rattle.dali_record.specs.declared.records.Answer.TheVariants.{Odd}
 use Rattle.dali_record.specs.declared.records.Record.{Record}
@@ -20,12 +20,8 @@ use Rattle.dali_history.proofs.ByKey.{none_stays}
 pub odd_value : (o : Option (List ℕ)) (c : Call) (p : ℕ) → value_after o c (Odd p) ≡ None
 odd_value None (Insert k v) p = refl
 odd_value (Some w) (Insert k v) p = refl
-odd_value None (Update k v) p = refl
-odd_value (Some w) (Update k v) p = refl
-odd_value None (Delete k) p = refl
-odd_value (Some w) (Delete k) p = refl
-odd_value None (Get k) p = refl
-odd_value (Some w) (Get k) p = refl
+odd_value None _ p = refl
+odd_value (Some w) _ p = refl
 
 -- the rest of the calls is defined too, on some map
 first_step : (o : Option Map) (cs : List (Call × Answer)) (n : Map) → calls_after o cs ≡ Some n → (m : Map) × (o ≡ Some m)

@@ -15,7 +15,7 @@ use Rattle.std.specs.FinMap.{empty}
 use Rattle.dali_geometry.specs.Sizes.{Sizes, AreInRange}
 use Rattle.dali_geometry.specs.Places.{regions}
 use Rattle.dali_bytes.specs.Cursor.{IsBytes}
-use Rattle.dali_record.specs.Blocks.{AreWords}
+use Rattle.dali_record.specs.Blocks.{AllAreWords}
 use Rattle.dali_att.specs.Table.{Table}
 use Rattle.dali_record.specs.declared.operations.Pending.{Pending}
 use Rattle.dali_record.specs.Spelling.{Is32, Is64, ascends}
@@ -85,7 +85,7 @@ pub record IsPassed (bytes : List ℕ) (h : Header) (m : Table Pending) : Type 0
   pub header_is : header_of h.geometry head ≡ h
   pub table_is : m ≡ table_of head.table
   pub reads : ReadsHead h.geometry head bytes
-  pub fits : (image : List (List ℕ)) → length image ≡ regions h.geometry → AllByRecursion AreWords image → CanBeImage h.geometry head image
+  pub fits : (image : List (List ℕ)) → length image ≡ regions h.geometry → AllAreWords image → CanBeImage h.geometry head image
 
 abbrev pub WhatPassesIsAnImage : Type 0
 WhatPassesIsAnImage =

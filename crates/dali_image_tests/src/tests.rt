@@ -12,6 +12,7 @@ use dali_record::{Pending, Undo};
 use dali_region::Side;
 use dali_store::{FileName, Store};
 use std::alloc::{AllocError, Global};
+use std::process::Abort;
 use std::test::Fail;
 
 // One index region and one heap region; checkpoint 2, place 15 behind 1 record of 10 bytes, next transaction 9.
@@ -87,20 +88,30 @@ fn bad(at: u64) -> Option<Result<usize, ImageError>> {
     }))
 }
 
-// The image is bad at this place of its table.
-fn bad_field(field: u64) -> Option<Result<usize, ImageError>> {
-    bad(TABLE_PLACE.saturating_add(field))
+// Checks that an image of so many bytes, of which one is another, is bad at this place.
+fn check(rt: &impl Abort, alloc: Global, place: usize, byte: u8, length: usize, at: u64) {
+    assert_eq!(rt;
+        table_with(alloc, place, byte, length),
+        bad(at),
+        "{place} {byte} {length}"
+    );
 }
 
-// What is read of the table, where one of its bytes is another.
-fn with_byte(alloc: Global, place: usize, byte: u8) -> Option<Result<usize, ImageError>> {
-    table_with(alloc, place.saturating_add(1088), byte, 1146)
+// So where the byte is one of the table, and the place that of a field.
+fn check_byte(rt: &impl Abort, alloc: Global, place: usize, byte: u8, field: u64) {
+    let at = TABLE_PLACE.saturating_add(field);
+    check(rt, alloc, place.saturating_add(1088), byte, 1146, at);
 }
 
-// Each is one byte of the image, what stands there, and the bad place.
+// So where the header says that the table has so many bytes.
+fn check_length(rt: &impl Abort, alloc: Global, length: u8, field: u64) {
+    let at = TABLE_PLACE.saturating_add(field);
+    check(rt, alloc, 63, length, 1146, at);
+}
+
+// Each is one byte of the table, what stands there, and the bad field.
 #[test]
-fn a_table_is_refused_at_its_first_wrong_field(rt: HostRuntime) -> Result<(), Fail> {
-    let alloc = rt.alloc();
+fn a_table_is_refused_at_its_first_wrong_field(rt: HostRuntime) {
     for (place, byte, field) in [
         (3, 3, 58),
         (3, 1, 45),
@@ -125,19 +136,13 @@ fn a_table_is_refused_at_its_first_wrong_field(rt: HostRuntime) -> Result<(), Fa
         (53, 2, 53),
         (57, 1, 54),
     ] {
-        assert_eq!(rt;
-            with_byte(alloc, place, byte),
-            bad_field(field),
-            "{place} {byte}"
-        );
+        check_byte(&rt, rt.alloc(), place, byte, field);
     }
-    Ok(())
 }
 
 // Each is the length in the header, and the bad field.
 #[test]
-fn a_table_that_is_cut_short_is_refused_at_its_field(rt: HostRuntime) -> Result<(), Fail> {
-    let alloc = rt.alloc();
+fn a_table_that_is_cut_short_is_refused_at_its_field(rt: HostRuntime) {
     for (length, field) in [
         (0, 0),
         (3, 0),
@@ -150,21 +155,13 @@ fn a_table_that_is_cut_short_is_refused_at_its_field(rt: HostRuntime) -> Result<
         (30, 30),
         (57, 54),
     ] {
-        assert_eq!(rt;
-            table_with(alloc, 63, length, 1146),
-            bad_field(field),
-            "{length}"
-        );
+        check_length(&rt, rt.alloc(), length, field);
     }
-    assert_eq!(rt; table_with(alloc, 63, 59, 1146), bad(56));
-    assert_eq!(rt; table_with(alloc, 63, 58, 1145), bad(56));
-    assert_eq!(rt; table_with(alloc, 63, 58, 1146), Some(Ok(2)));
-    Ok(())
 }
 
+// Each is one byte of the header, what stands there, how many bytes the image has, and the bad place.
 #[test]
-fn a_header_is_refused_at_its_mark_and_its_sizes(rt: HostRuntime) -> Result<(), Fail> {
-    let alloc = rt.alloc();
+fn a_header_is_refused_at_its_mark_and_its_sizes(rt: HostRuntime) {
     for (place, byte, length, at) in [
         (0, 68, 63, 0),
         (0, 68, 0, 0),
@@ -174,14 +171,12 @@ fn a_header_is_refused_at_its_mark_and_its_sizes(rt: HostRuntime) -> Result<(), 
         (9, 1, 1146, 8),
         (15, 0, 1146, 8),
         (12, 1, 1146, 8),
+        // the table doesn't end where the image does
+        (63, 59, 1146, 56),
+        (63, 58, 1145, 56),
     ] {
-        assert_eq!(rt;
-            table_with(alloc, place, byte, length),
-            bad(at),
-            "{place} {byte} {length}"
-        );
+        check(&rt, rt.alloc(), place, byte, length, at);
     }
-    Ok(())
 }
 
 fn header(alloc: Global) -> Option<Header> {
@@ -254,8 +249,6 @@ fn wrong(at: u64) -> Option<Result<(), ImageError>> {
 
 #[test]
 fn a_header_is_read_written_and_tested(rt: HostRuntime) -> Result<(), Fail> {
-    assert_eq!(rt; header(rt.alloc()), by_hand());
-    assert_eq!(rt; is_written(), Some(true));
     const MANY: u64 = 1 << 40;
     for (number, place, first, weight, next, at) in [
         (2, 14, MANY, MANY, MANY, 16),
@@ -273,9 +266,18 @@ fn a_header_is_read_written_and_tested(rt: HostRuntime) -> Result<(), Fail> {
             "{at}"
         );
     }
-    assert_eq!(rt; checked(3, 99, MANY - 1, MANY - 1, 1), Some(Ok(())));
-    assert_eq!(rt; (of_sizes(1, 2), of_sizes(2, 1)), (wrong(8), wrong(8)));
-    assert_eq!(rt; of_sizes(1, 1), Some(Ok(())));
+    assert_eq!(rt;
+        (
+            (header(rt.alloc()), is_written()),
+            checked(3, 99, MANY - 1, MANY - 1, 1),
+            (of_sizes(1, 2), of_sizes(2, 1), of_sizes(1, 1))
+        ),
+        (
+            (by_hand(), Some(true)),
+            Some(Ok(())),
+            (wrong(8), wrong(8), Some(Ok(())))
+        )
+    );
     Ok(())
 }
 
@@ -318,11 +320,13 @@ fn worked_table(alloc: Global) -> Option<(bool, Option<State>, usize)> {
     ))
 }
 
+// The image as it is by hand has a table of two transactions.
 #[test]
 fn a_table_is_written_and_read(rt: HostRuntime) -> Result<(), Fail> {
+    let alloc = rt.alloc();
     assert_eq!(rt;
-        worked_table(rt.alloc()),
-        Some((true, Some(State::Live), 2))
+        (worked_table(alloc), table_with(alloc, 63, 58, 1146)),
+        (Some((true, Some(State::Live), 2)), Some(Ok(2)))
     );
     Ok(())
 }
@@ -337,22 +341,34 @@ fn the_anchor_counts_its_open_gates(rt: HostRuntime) -> Result<(), Fail> {
     let alloc = rt.alloc();
     let file = FileName::Anchor;
     assert_eq!(rt;
-        number_in(alloc, &[], None),
-        Some(Err(ImageError::BadImage { file, at: 0 }))
+        (
+            (
+                number_in(alloc, &[], None),
+                number_in(alloc, &[0xa5, 0xa5], None)
+            ),
+            (
+                number_in(alloc, &[0, 0xa5], None),
+                number_in(alloc, &[0xa5, 0xa5, 0xa5, 1], None)
+            ),
+            (
+                number_in(alloc, &[0], Some(0)),
+                number_in(alloc, &[0], Some(1)),
+                number_in(alloc, &[0], Some(2))
+            )
+        ),
+        (
+            (
+                Some(Err(ImageError::BadImage { file, at: 0 })),
+                Some(Err(ImageError::BadImage { file, at: 2 }))
+            ),
+            (Some(Ok(0)), Some(Ok(3))),
+            (
+                Some(Err(ImageError::Fault)),
+                Some(Err(ImageError::Fault)),
+                Some(Ok(0))
+            )
+        )
     );
-    assert_eq!(rt;
-        number_in(alloc, &[0xa5, 0xa5], None),
-        Some(Err(ImageError::BadImage { file, at: 2 }))
-    );
-    assert_eq!(rt; number_in(alloc, &[0, 0xa5], None), Some(Ok(0)));
-    assert_eq!(rt; number_in(alloc, &[0xa5, 0xa5, 0xa5, 1], None), Some(Ok(3)));
-    for passes in 0..2 {
-        assert_eq!(rt;
-            number_in(alloc, &[0], Some(passes)),
-            Some(Err(ImageError::Fault))
-        );
-    }
-    assert_eq!(rt; number_in(alloc, &[0], Some(2)), Some(Ok(0)));
     Ok(())
 }
 
@@ -371,9 +387,13 @@ fn reads(alloc: Global, passes: u64) -> Option<[bool; 3]> {
 #[test]
 fn reads_fail_where_a_store_call_does(rt: HostRuntime) -> Result<(), Fail> {
     let alloc = rt.alloc();
-    assert_eq!(rt; reads(alloc, 0), Some([false, false, false]));
-    assert_eq!(rt; reads(alloc, 1), Some([true, true, false]));
-    assert_eq!(rt; reads(alloc, 2), Some([true, true, true]));
+    for (passes, answers) in [
+        (0, [false, false, false]),
+        (1, [true, true, false]),
+        (2, [true, true, true]),
+    ] {
+        assert_eq!(rt; reads(alloc, passes), Some(answers), "{passes}");
+    }
     Ok(())
 }
 
@@ -389,15 +409,23 @@ fn region_of(alloc: Global, region: u32, length: usize) -> Option<Result<u64, Im
 #[test]
 fn a_region_is_read_where_it_ends_in_the_file(rt: HostRuntime) -> Result<(), Fail> {
     let alloc = rt.alloc();
-    let cut = Some(Err(ImageError::BadImage {
+    let cut = Err(ImageError::BadImage {
         file: FileName::ImageB,
         at: 56,
-    }));
-    assert_eq!(rt; region_of(alloc, 0, 1146), Some(Ok(0)));
-    assert_eq!(rt; region_of(alloc, 1, 1146), Some(Ok(9)));
-    assert_eq!(rt; region_of(alloc, 1, 1088), Some(Ok(9)));
-    assert_eq!(rt; region_of(alloc, 1, 1087), cut);
-    assert_eq!(rt; region_of(alloc, 2, 1146), cut);
+    });
+    for (region, length, read) in [
+        (0, 1146, Ok(0)),
+        (1, 1146, Ok(9)),
+        (1, 1088, Ok(9)),
+        (1, 1087, cut),
+        (2, 1146, cut),
+    ] {
+        assert_eq!(rt;
+            region_of(alloc, region, length),
+            Some(read),
+            "{region} {length}"
+        );
+    }
     Ok(())
 }
 
@@ -440,12 +468,17 @@ fn a_thousand(alloc: Global) -> Option<(bool, bool)> {
     Some((same, store.spent()))
 }
 
+// Whether the second region's bytes begin with its words.
+fn begins_with_its_words() -> bool {
+    let words = piece(0)[1];
+    region_bytes(&words).starts_with(&[0, 0, 0, 0, 0, 0, 0, 64, 0, 0, 0, 0, 0, 0, 0, 65])
+}
+
 #[test]
 fn a_thousand_regions_in_pieces(rt: HostRuntime) -> Result<(), Fail> {
-    assert_eq!(rt; a_thousand(rt.alloc()), Some((true, false)));
-    let words = piece(0)[1];
-    assert!(rt;
-        region_bytes(&words).starts_with(&[0, 0, 0, 0, 0, 0, 0, 64, 0, 0, 0, 0, 0, 0, 0, 65])
+    assert_eq!(rt;
+        (a_thousand(rt.alloc()), begins_with_its_words()),
+        (Some((true, false)), true)
     );
     Ok(())
 }

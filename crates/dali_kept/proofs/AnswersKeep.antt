@@ -24,7 +24,7 @@ use Rattle.dali_slots.proofs.CallKey.{IsOff, off_on}
 use Rattle.dali_slots.proofs.RunningTxn.{Runs}
 use Rattle.dali_slots.proofs.AnswersAndBacks.{runs_done, answers_on}
 use Rattle.dali_kept.proofs.WithoutLast.{left, Touches, Alters, touches_push, alters_push}
-use Rattle.dali_kept.proofs.Invariant.{AreDead, IsClear, IsAlone, Keyed, same_calls}
+use Rattle.dali_kept.proofs.Invariant.{AreDead, IsClear, IsAlone, Keyed, keyed_on, same_calls}
 use Rattle.dali_kept.proofs.OperationsKeep.{level_still, onward_still}
 
 abbrev pub rested_of : Working → Working
@@ -134,19 +134,13 @@ module _ (s : Sizes) (cuts : List ℕ) (J : List Record) (W : World) (F : Flags)
   quiet_alone k u h y apart = subst (λ ps. NoneOn k ps) (sym (quiet_left y)) (h y apart)
 
   pub keyed_quiet : (k : ℕ) (start : Option (List ℕ)) → Keyed s cuts J W F start k → Keyed s cuts (J ++ r ∷ []) W F start k
-  keyed_quiet k start h = record {
-    value = h.value;
-    slots = h.slots;
-    holder = h.holder;
-    replayed = ap (λ cs. values_after (Some start) (on_key k cs)) same.2 ∙ h.replayed;
-    stands = h.stands;
-    reached = h.reached;
-    leads = subst (λ ps. Leads s k (reverse ps) (W k) h.slots) (sym (quiet_left h.holder)) h.leads;
-    others = quiet_alone k h.holder h.others;
-    altered = λ u. ⊎_elim (λ n. inl (subst (λ ps. NoneOn k ps) (sym (quiet_left u)) n)) (λ n. inr (alters_push u k J r n)) (h.altered u);
-    txns = λ u y e uncut still. txns u y e uncut still (x.states u);
-    dead = λ u ps e. dead u ps e (x.states u);
-  }
+  keyed_quiet k start h =
+      keyed_on s cuts J r W W F start k h same.2
+      (subst (λ ps. Leads s k (reverse ps) (W k) h.slots) (sym (quiet_left h.holder)) h.leads)
+      (quiet_alone k h.holder h.others)
+      (λ u. ⊎_elim (λ n. inl (subst (λ ps. NoneOn k ps) (sym (quiet_left u)) n)) (λ n. inr (alters_push u k J r n)) (h.altered u))
+      (λ u y e uncut still. txns u y e uncut still (x.states u))
+      (λ u ps e. dead u ps e (x.states u))
     where
       txns :
           (u : ℕ) (y : Working) → kept_state s u (J ++ r ∷ []) ≡ Some (Active y) → has cuts u ≡ false → is_unwinding y.way ≡ false → QuietState s J r u

@@ -94,6 +94,21 @@ live_cell_part s image k r c form tidy kind live key =
     heap_low : (z : Sizes) (q : ℕ) → is_heap z q ≡ true → q < z.index + z.heap
     heap_low z q h = grind (arith, nat_tests)
 
+-- a live cell is named by a live entry of its key
+named_cell :
+    (s : Sizes) (image : List (List ℕ)) (q i : ℕ) → IsIndexed s image → IsLiveCell s image q i
+    → (r : ℕ) × (e : ℕ) × IsLiveEntry s image r e × (region_at (entry.place_of (words_in image r) e) ≡ q) × (cell_at (entry.place_of (words_in image r) e) ≡ i) × (cell.key_of (words_in image q) i ≡ entry.key_of (words_in image r) e)
+named_cell s image q i indexed live =
+    let n = indexed.is_named q i live in
+    let small : i < 8 = live.2 in
+    let at_region : region_at (place q i) ≡ q = omega arith in
+    let at_cell : cell_at (place q i) ≡ i = omega arith in
+    let other = indexed.names_cell n.0 n.1 n.2 in
+    let region : region_at (entry.place_of (words_in image n.0) n.1) ≡ q = ap region_at n.3 ∙ at_region in
+    let slot : cell_at (entry.place_of (words_in image n.0) n.1) ≡ i = ap cell_at n.3 ∙ at_cell in
+    let there : cell.key_of (words_in image q) i ≡ entry.key_of (words_in image n.0) n.1 = subst (λ y. cell.key_of (words_in image q) y ≡ entry.key_of (words_in image n.0) n.1) slot (subst (λ y. cell.key_of (words_in image y) (cell_at (entry.place_of (words_in image n.0) n.1)) ≡ entry.key_of (words_in image n.0) n.1) region other.2) in
+    (n.0, n.1, n.2, region, slot, there)
+
 -- where an entry of the key is live, the slots stand for its value
 pub live_stands : (s : Sizes) (image : List (List ℕ)) (k r e : ℕ) (v : List ℕ) → IsImage s image → IsIndexed s image → IsTidy s image → IsLiveEntry s image r e → entry.key_of (words_in image r) e ≡ k → stored s image r e ≡ Some (k, v) → Lives s (part s image k) v
 live_stands s image k r e v form indexed tidy live key h = record {
@@ -136,17 +151,10 @@ live_stands s image k r e v form indexed tidy live key h = record {
         absurd (⊎_elim (λ n. n same.0) (λ n. n same.1) a)
     others q i a b x xs g false kind =
         let l = seen_cell s image k q i x xs form tidy kind g in
-        let n = indexed.is_named q i l.0 in
-        let small : i < 8 = l.0.2 in
-        let at_region : region_at (place q i) ≡ q = omega arith in
-        let at_cell : cell_at (place q i) ≡ i = omega arith in
-        let other = indexed.names_cell n.0 n.1 n.2 in
-        let region : region_at (entry.place_of (words_in image n.0) n.1) ≡ q = ap region_at n.3 ∙ at_region in
-        let slot : cell_at (entry.place_of (words_in image n.0) n.1) ≡ i = ap cell_at n.3 ∙ at_cell in
-        let there : cell.key_of (words_in image q) i ≡ entry.key_of (words_in image n.0) n.1 = subst (λ y. cell.key_of (words_in image q) y ≡ entry.key_of (words_in image n.0) n.1) slot (subst (λ y. cell.key_of (words_in image y) (cell_at (entry.place_of (words_in image n.0) n.1)) ≡ entry.key_of (words_in image n.0) n.1) region other.2) in
-        let same = indexed.one_entry n.0 n.1 r e n.2 live (sym there ∙ l.2 ∙ sym key) in
+        let n = named_cell s image q i indexed l.0 in
+        let same = indexed.one_entry n.0 n.1 r e n.2 live (sym n.5 ∙ l.2 ∙ sym key) in
         let place_same : entry.place_of (words_in image n.0) n.1 ≡ entry.place_of (words_in image r) e = ap (λ y. entry.place_of (words_in image y) n.1) same.0 ∙ ap (λ y. entry.place_of (words_in image r) y) same.1 in
-        absurd (⊎_elim (λ m. m (sym region ∙ ap region_at place_same)) (λ m. m (sym slot ∙ ap cell_at place_same)) b)
+        absurd (⊎_elim (λ m. m (sym n.3 ∙ ap region_at place_same)) (λ m. m (sym n.4 ∙ ap cell_at place_same)) b)
 
 -- an entry that stands for a pair is live, and its key is the pair's
 stored_live : (s : Sizes) (image : List (List ℕ)) (r e : ℕ) (p : ℕ × List ℕ) → stored s image r e ≡ Some p → (entry.state_of (words_in image r) e ≡ 1) × (entry.key_of (words_in image r) e ≡ p.0)
@@ -191,10 +199,5 @@ base_stands s image k form indexed tidy = go (find (λ p. p.0 == k) (records s i
         none q i x xs g true kind = let l = seen_entry s image k q i x xs form tidy kind g in absurd (no_entry q i l.0 l.2)
         none q i x xs g false kind =
             let l = seen_cell s image k q i x xs form tidy kind g in
-            let n = indexed.is_named q i l.0 in
-            let small : i < 8 = l.0.2 in
-            let at_region : region_at (place q i) ≡ q = omega arith in
-            let at_cell : cell_at (place q i) ≡ i = omega arith in
-            let other = indexed.names_cell n.0 n.1 n.2 in
-            let there : cell.key_of (words_in image q) i ≡ entry.key_of (words_in image n.0) n.1 = subst (λ y. cell.key_of (words_in image q) y ≡ entry.key_of (words_in image n.0) n.1) (ap cell_at n.3 ∙ at_cell) (subst (λ y. cell.key_of (words_in image y) (cell_at (entry.place_of (words_in image n.0) n.1)) ≡ entry.key_of (words_in image n.0) n.1) (ap region_at n.3 ∙ at_region) other.2) in
-            absurd (no_entry n.0 n.1 n.2 (sym there ∙ l.2))
+            let n = named_cell s image q i indexed l.0 in
+            absurd (no_entry n.0 n.1 n.2 (sym n.5 ∙ l.2))

@@ -14,7 +14,7 @@ use Rattle.dali_record.specs.Log.{undos_of, committed, calls_of, last_of, drop_l
 use Rattle.dali_record.specs.Damage.{has}
 use Rattle.dali_record.specs.Legal.{Working, Way, Onward, TakingBack, Unwinding, Active, is_unwinding, way_back, Committed as IsOver}
 use Rattle.dali_record.proofs.Pushes.{undos_of_push}
-use Rattle.dali_history.specs.Serial.{values_after, on_key, calls_in_order}
+use Rattle.dali_history.specs.Serial.{on_key, calls_in_order}
 use Rattle.dali_kept.specs.Kept.{kept_state, IsLockLegalBut}
 use Rattle.dali_index.proofs.Worlds.{World, Flags}
 use Rattle.dali_index.proofs.Parts.{Part}
@@ -22,7 +22,7 @@ use Rattle.dali_slots.proofs.SlotUndos.{Leads, NoneOn, Finds, undone_part, leads
 use Rattle.dali_slots.proofs.RunningTxn.{Runs}
 use Rattle.dali_slots.proofs.AnswersAndBacks.{Undoes, undoes_part, undoes_leads, runs_back, last_split}
 use Rattle.dali_kept.proofs.WithoutLast.{left, Touches, Alters, touches_push, alters_push, yields_altered}
-use Rattle.dali_kept.proofs.Invariant.{AreDead, IsClear, IsAlone, Keyed, FitsWay, Knows, yields_committed, same_calls}
+use Rattle.dali_kept.proofs.Invariant.{AreDead, IsClear, IsAlone, Keyed, keyed_on, FitsWay, Knows, yields_committed, same_calls}
 use Rattle.dali_kept.proofs.OperationsKeep.{dead_none}
 
 abbrev pub taken_back : Working → Working
@@ -86,19 +86,13 @@ module _ (s : Sizes) (cuts : List ℕ) (J : List Record) (W V : World) (F : Flag
 
   -- a block that takes back keeps what holds of each key
   pub keyed_back : Undoes W V p → (k : ℕ) (start : Option (List ℕ)) → Keyed s cuts J W F start k → Keyed s cuts (J ++ Back t b ∷ []) V F start k
-  keyed_back undoes k start h = record {
-    value = h.value;
-    slots = h.slots;
-    holder = h.holder;
-    replayed = ap (λ cs. values_after (Some start) (on_key k cs)) same.2 ∙ h.replayed;
-    stands = h.stands;
-    reached = h.reached;
-    leads = leads (eqb_tells h.holder t);
-    others = alone_push k h.holder h.others;
-    altered = λ u. altered u (eqb_tells u t);
-    txns = λ u y e uncut still. txns u y e uncut still (eqb_tells u t);
-    dead = λ u ps e. dead u ps e (eqb_tells u t);
-  }
+  keyed_back undoes k start h =
+      keyed_on s cuts J (Back t b) W V F start k h same.2
+      (leads (eqb_tells h.holder t))
+      (alone_push k h.holder h.others)
+      (λ u. altered u (eqb_tells u t))
+      (λ u y e uncut still. txns u y e uncut still (eqb_tells u t))
+      (λ u ps e. dead u ps e (eqb_tells u t))
     where
       part : ((p.key ≡ k) × (V k ≡ undone_part (W k) p)) ⊎ ((p.key ≢ k) × (V k ≡ W k))
       part = undoes_part W V p k undoes

@@ -2,7 +2,7 @@
 --     cleared x                what a state becomes
 --     emptied xs               a slot's content, where it isn't dead
 --     alive P                  the slots P without the dead ones
-use Rattle.std.proofs.Common.{◌≡◌, ℕ, zero, suc, ◌+◌, ◌*◌, ◌<◌, ◌≤◌, Bool, true, false, cond, not, List, [], ◌∷◌, ◌++◌, length, map, get_or, set, take, drop, fold, Option, Some, None, refl, ap, sym, ◌∙◌, ◌⊎◌, inl, inr, ⊎_elim, ◌≢◌, arith, length-set, get_or-set_other, get_or-set_same}
+use Rattle.std.proofs.Common.{◌≡◌, ℕ, zero, suc, ◌+◌, ◌*◌, ◌<◌, ◌≤◌, Bool, true, false, cond, not, List, [], ◌∷◌, ◌++◌, length, map, get_or, set, take, drop, fold, Option, Some, None, refl, ap, sym, ◌∙◌, ◌⊎◌, inl, inr, ⊎_elim, ◌≢◌, arith, get_or-set_other, get_or-set_same}
 use Rattle.std.specs.Prelude.{◌==◌, if◌then◌else◌}
 use Rattle.std.proofs.lemmas.Bool.Decides.{eqb_tells, nat_tests}
 use Rattle.std.proofs.lemmas.List.{get_or_past}
@@ -20,7 +20,7 @@ use Rattle.dali_index.proofs.Slots.{seen, entry_part, cell_part, value_at}
 use Rattle.dali_index.proofs.Worlds.{Flags, part, flags}
 use Rattle.dali_slots.proofs.BlockOnSlots.{part_entry, part_cell}
 use Rattle.dali_index.proofs.Parts.{Part}
-use Rattle.dali_slots.proofs.ValueSlots.{Reached, Stands}
+use Rattle.dali_slots.proofs.ValueSlots.{Reached, Stands, lives_in}
 
 abbrev pub cleared : ℕ → ℕ
 cleared x = if x == 2 then 0 else x
@@ -50,17 +50,6 @@ free_same ws i = go (eqb_tells (get_or ws i 0) 2) (split i (length ws))
     go (inl a) (inl b) = rw (a.0) (get_or-set_same ws i 0 0 b)
     go (inl a) (inr b) = let none : get_or ws i 0 ≡ 0 = past_is_zero ws i b in absurd (omega (arith, none, a.1))
     go (inr a) b = rw (a.0) refl
-
-length-free_word : (ws : List ℕ) (i : ℕ) → length (free_word ws i) ≡ length ws
-length-free_word ws i = go (get_or ws i 0 == 2)
-  where
-    go : (b : Bool) → length (cond b (set ws i 0) ws) ≡ length ws
-    go true = length-set ws i 0
-    go false = refl
-
-length-free : (ws : List ℕ) (is : List ℕ) → length (fold free_word ws is) ≡ length ws
-length-free ws [] = refl
-length-free ws (i ∷ is) = length-free (free_word ws i) is ∙ length-free_word ws i
 
 -- a word that isn't among these stays
 free_kept : (f : ℕ → ℕ) (n m : ℕ) (ws : List ℕ) (j : ℕ) → ((i : ℕ) → n ≤ i → i < n + m → j ≢ f i) → get_or (fold free_word ws (map f (from n m))) j 0 ≡ get_or ws j 0
@@ -234,19 +223,7 @@ none_dead P r i x xs e = (emptied_is (P r i) x xs e).1
 
 pub stands_alive : (s : Sizes) (P : Part) (o : Option (List ℕ)) → Stands s P o → Stands s (alive P) o
 stands_alive s P None h = λ q i x xs e. h q i x xs (emptied_is (P q i) x xs e).0
-stands_alive s P (Some v) h = record {
-  region = h.region;
-  slot = h.slot;
-  at = h.at;
-  count = h.count;
-  words = h.words;
-  in_index = h.in_index;
-  entry = ap emptied h.entry;
-  is_place = h.is_place;
-  cell = (ap emptied h.cell.0, h.cell.1, h.cell.2);
-  value = h.value;
-  others = λ q i a b x xs e. h.others q i a b x xs (emptied_is (P q i) x xs e).0;
-}
+stands_alive s P (Some v) h = lives_in s P (alive P) v h (ap emptied h.entry) (ap emptied h.cell.0) (λ q i a b x xs e. h.others q i a b x xs (emptied_is (P q i) x xs e).0)
 
 pub reached_alive : (s : Sizes) (F : Flags) (k : ℕ) (P : Part) → Reached s F k P → Reached s F k (alive P)
 reached_alive s F k P h r i x xs low e = h r i x xs low (emptied_is (P r i) x xs e).0

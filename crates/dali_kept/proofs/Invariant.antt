@@ -62,6 +62,30 @@ pub record Keyed (s : Sizes) (cuts : List ℕ) (J : List Record) (W : World) (F 
   pub txns : (t : ℕ) (w : Working) → kept_state s t J ≡ Some (Active w) → has cuts t ≡ false → is_unwinding w.way ≡ false → IsClear k (calls_of t J) w ⊎ (Touches t k J × IsAlone t k J × Runs s F k value (W k) (calls_of t J) w)
   pub dead : (t : ℕ) (ps : List Pending) → kept_state s t J ≡ Some (IsOver ps) → (NoneOn k ps ⊎ Alters t k J) × AreDead k ps (W k)
 
+-- a record more that changes no answer of a committed call, and stands for the same value
+pub keyed_on :
+    (s : Sizes) (cuts : List ℕ) (J : List Record) (r : Record) (W V : World) (F : Flags) (start : Option (List ℕ)) (k : ℕ) (h : Keyed s cuts J W F start k)
+    → calls_in_order (committed (J ++ r ∷ [])) (J ++ r ∷ []) ≡ calls_in_order (committed J) J
+    → Leads s k (reverse (left h.holder (J ++ r ∷ []))) (V k) h.slots
+    → IsAlone h.holder k (J ++ r ∷ [])
+    → ((u : ℕ) → NoneOn k (left u (J ++ r ∷ [])) ⊎ Alters u k (J ++ r ∷ []))
+    → ((t : ℕ) (w : Working) → kept_state s t (J ++ r ∷ []) ≡ Some (Active w) → has cuts t ≡ false → is_unwinding w.way ≡ false → IsClear k (calls_of t (J ++ r ∷ [])) w ⊎ (Touches t k (J ++ r ∷ []) × IsAlone t k (J ++ r ∷ []) × Runs s F k h.value (V k) (calls_of t (J ++ r ∷ [])) w))
+    → ((t : ℕ) (ps : List Pending) → kept_state s t (J ++ r ∷ []) ≡ Some (IsOver ps) → (NoneOn k ps ⊎ Alters t k (J ++ r ∷ [])) × AreDead k ps (V k))
+    → Keyed s cuts (J ++ r ∷ []) V F start k
+keyed_on s cuts J r W V F start k h same leads others altered txns dead = record {
+  value = h.value;
+  slots = h.slots;
+  holder = h.holder;
+  replayed = ap (λ cs. values_after (Some start) (on_key k cs)) same ∙ h.replayed;
+  stands = h.stands;
+  reached = h.reached;
+  leads = leads;
+  others = others;
+  altered = altered;
+  txns = txns;
+  dead = dead;
+}
+
 -- ---- what is known of each transaction
 abbrev pub FitsWay : Working → Way → Type 0
 FitsWay w Onward = w.mark ≤ length w.undos

@@ -202,6 +202,27 @@ freeing_changes _ key ws = refl
 pub sound_changes : (ws : List ℕ) (b : Block) (op : Op) → IsSoundOn ws b → b.op ≡ op → changes (effect op b.key ws).1 ≡ true → changes b.outcome ≡ true
 sound_changes ws b op sound e h = ap (λ (x : Block). changes x.outcome) (sym sound) ∙ ap (λ o. changes (effect o b.key ws).1) e ∙ h
 
+-- what is known of a block that takes back
+pub block_takes_back :
+    (s : Sizes) (base : List (List ℕ)) (cuts : List ℕ) (J : List Record) (t : ℕ) (b : Block) (w : Working) (p : Pending) → Fine s base cuts (J ++ Back t b ∷ []) → Along s base cuts J
+    → kept_state s t J ≡ Some (Active w) → kept_state s t (J ++ Back t b ∷ []) ≡ Some (Active (taken_back w))
+    → last_of w.undos ≡ Some p → (b.key ≡ p.key) × (b.region ≡ p.region) × (b.op ≡ undo_op p.undo)
+    → BackStep s cuts J t b w p
+block_takes_back s base cuts J t b w p h along before after last is = record {
+  knows = along.known;
+  before = before;
+  after = after;
+  beside = λ u apart. state_beside s u J (Back t b) (old.calls.txns u) (ne_eqb t u (λ i. apart (sym i)));
+  last = last;
+  on = is.0;
+  changes = sound_changes (words_in (redo_all base J) b.region) b (undo_op p.undo) (sound_before base J (Back t b) h.sound).1 is.2 (undone_changes p.undo b.key (words_in (redo_all base J) b.region));
+  locks = h.locks;
+  uncut = old.uncut;
+}
+  where
+    old : Fine s base cuts J
+    old = fine_before s base cuts J (Back t b) h
+
 along_back : (s : Sizes) (base : List (List ℕ)) (cuts : List ℕ) (J : List Record) (t : ℕ) (b : Block) → Fine s base cuts (J ++ Back t b ∷ []) → Along s base cuts J → (k : ℕ) → Keyed s cuts (J ++ Back t b ∷ []) (part s (redo_all base (J ++ Back t b ∷ []))) (flags (redo_all base (J ++ Back t b ∷ []))) (map_of s base k) k
 along_back s base cuts J t b h along k = subst (λ image. Keyed s cuts (J ++ Back t b ∷ []) (part s image) (flags image) (map_of s base k) k) (sym (redo_all_push base J (Back t b))) (go (some_of (kept_state s t J) (old.calls.txns t)) (some_of (kept_state s t (J ++ Back t b ∷ [])) (h.calls.txns t)))
   where
@@ -233,17 +254,7 @@ along_back s base cuts J t b h along k = subst (λ image. Keyed s cuts (J ++ Bac
                 is = is_of_is (undo_op p.0.undo) p.0 b p.2
 
                 step : BackStep s cuts J t b z.0 p.0
-                step = record {
-                  knows = along.known;
-                  before = x.1 ∙ ap (λ o. Some o) z.1;
-                  after = y.1 ∙ ap (λ o. Some o) (sym p.3);
-                  beside = λ u apart. state_beside s u J (Back t b) (old.calls.txns u) (ne_eqb t u (λ i. apart (sym i)));
-                  last = p.1;
-                  on = is.0;
-                  changes = sound_changes (words_in (redo_all base J) b.region) b (undo_op p.0.undo) sound is.2 (undone_changes p.0.undo b.key (words_in (redo_all base J) b.region));
-                  locks = h.locks;
-                  uncut = old.uncut;
-                }
+                step = block_takes_back s base cuts J t b z.0 p.0 h along (x.1 ∙ ap (λ o. Some o) z.1) (y.1 ∙ ap (λ o. Some o) (sym p.3)) p.1 is
 
                 undoes : (Undoes (part s (redo_all base J)) (part s (redo (redo_all base J) (Back t b))) p.0) × (flags (redo (redo_all base J) (Back t b)) ≡ flags (redo_all base J))
                 undoes = undo_does s (part s (redo_all base J)) (part s (redo (redo_all base J) (Back t b))) (flags (redo_all base J)) (flags (redo (redo_all base J) (Back t b))) p.0 b.outcome b.undo (does_of (part s (redo_all base J)) (part s (redo (redo_all base J) (Back t b))) (flags (redo_all base J)) (flags (redo (redo_all base J) (Back t b))) (undo_op p.0.undo) p.0 b p.2 does) (back_finds s cuts J (part s (redo_all base J)) (part s (redo (redo_all base J) (Back t b))) (flags (redo_all base J)) t b z.0 p.0 step (map_of s base p.0.key) (along.keyed p.0.key))

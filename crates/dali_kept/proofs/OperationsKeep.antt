@@ -180,6 +180,15 @@ module _ (s : Sizes) (cuts : List ℕ) (J : List Record) (W V : World) (F G : Fl
   own_runs : (k : ℕ) (o : Option (List ℕ)) → Runs s F k o (W k) (calls_of t J) w → Runs s G k o (V k) (calls_of t (J ++ Forward t b ∷ [])) v
   own_runs k o h = subst (λ cs. Runs s G k o (V k) cs v) (sym (same.0 t)) (forward_runs s t W V F G k o (calls_of t J) w v b x.some x.does x.kind x.value known.3 x.forwards h)
 
+  -- what holds of it, of whoever is it
+  own_txn :
+      (k : ℕ) (o : Option (List ℕ)) (u : ℕ) (y : Working) → u ≡ t → kept_state s u (J ++ Forward t b ∷ []) ≡ Some (Active y)
+      → IsClear k (calls_of t (J ++ Forward t b ∷ [])) v ⊎ (Touches t k (J ++ Forward t b ∷ []) × IsAlone t k (J ++ Forward t b ∷ []) × Runs s G k o (V k) (calls_of t (J ++ Forward t b ∷ [])) v)
+      → IsClear k (calls_of u (J ++ Forward t b ∷ [])) y ⊎ (Touches u k (J ++ Forward t b ∷ []) × IsAlone u k (J ++ Forward t b ∷ []) × Runs s G k o (V k) (calls_of u (J ++ Forward t b ∷ [])) y)
+  own_txn k o u y is e holds =
+      subst (λ z. IsClear k (calls_of z (J ++ Forward t b ∷ [])) y ⊎ (Touches z k (J ++ Forward t b ∷ []) × IsAlone z k (J ++ Forward t b ∷ []) × Runs s G k o (V k) (calls_of z (J ++ Forward t b ∷ [])) y)) (sym is)
+      (subst (λ (z : Working). IsClear k (calls_of t (J ++ Forward t b ∷ [])) z ⊎ (Touches t k (J ++ Forward t b ∷ []) × IsAlone t k (J ++ Forward t b ∷ []) × Runs s G k o (V k) (calls_of t (J ++ Forward t b ∷ [])) z)) (own_state y (subst (λ z. kept_state s z (J ++ Forward t b ∷ []) ≡ Some (Active y)) is e)) holds)
+
   -- a key that the block isn't on
   off_alone : (k u : ℕ) → b.key ≢ k → IsAlone u k J → IsAlone u k (J ++ Forward t b ∷ [])
   off_alone k u off h y apart = go (eqb_tells y t)
@@ -221,10 +230,7 @@ module _ (s : Sizes) (cuts : List ℕ) (J : List Record) (W V : World) (F G : Fl
       txns :
           (u : ℕ) (y : Working) → kept_state s u (J ++ Forward t b ∷ []) ≡ Some (Active y) → has cuts u ≡ false → is_unwinding y.way ≡ false → (((u == t) ≡ true) × (u ≡ t)) ⊎ (((u == t) ≡ false) × (u ≢ t))
           → IsClear k (calls_of u (J ++ Forward t b ∷ [])) y ⊎ (Touches u k (J ++ Forward t b ∷ []) × IsAlone u k (J ++ Forward t b ∷ []) × Runs s G k h.value (V k) (calls_of u (J ++ Forward t b ∷ [])) y)
-      txns u y e uncut still (inl a) =
-          subst (λ z. IsClear k (calls_of z (J ++ Forward t b ∷ [])) y ⊎ (Touches z k (J ++ Forward t b ∷ []) × IsAlone z k (J ++ Forward t b ∷ []) × Runs s G k h.value (V k) (calls_of z (J ++ Forward t b ∷ [])) y)) (sym a.1)
-          (subst (λ (z : Working). IsClear k (calls_of t (J ++ Forward t b ∷ [])) z ⊎ (Touches t k (J ++ Forward t b ∷ []) × IsAlone t k (J ++ Forward t b ∷ []) × Runs s G k h.value (V k) (calls_of t (J ++ Forward t b ∷ [])) z)) (own_state y (subst (λ z. kept_state s z (J ++ Forward t b ∷ []) ≡ Some (Active y)) a.1 e))
-          (⊎_elim clear runs (h.txns t w x.before (subst (λ z. has cuts z ≡ false) a.1 uncut) (forward_still s t w b (Active v) x.forwards))))
+      txns u y e uncut still (inl a) = own_txn k h.value u y a.1 e (⊎_elim clear runs (h.txns t w x.before (subst (λ z. has cuts z ≡ false) a.1 uncut) (forward_still s t w b (Active v) x.forwards)))
         where
           clear : IsClear k (calls_of t J) w → IsClear k (calls_of t (J ++ Forward t b ∷ [])) v ⊎ (Touches t k (J ++ Forward t b ∷ []) × IsAlone t k (J ++ Forward t b ∷ []) × Runs s G k h.value (V k) (calls_of t (J ++ Forward t b ∷ [])) v)
           clear c = inl (record {
@@ -304,10 +310,7 @@ module _ (s : Sizes) (cuts : List ℕ) (J : List Record) (W V : World) (F G : Fl
       txns :
           (u : ℕ) (y : Working) → kept_state s u (J ++ Forward t b ∷ []) ≡ Some (Active y) → has cuts u ≡ false → is_unwinding y.way ≡ false → (((u == t) ≡ true) × (u ≡ t)) ⊎ (((u == t) ≡ false) × (u ≢ t))
           → IsClear k (calls_of u (J ++ Forward t b ∷ [])) y ⊎ (Touches u k (J ++ Forward t b ∷ []) × IsAlone u k (J ++ Forward t b ∷ []) × Runs s G k h.value (V k) (calls_of u (J ++ Forward t b ∷ [])) y)
-      txns u y e uncut still (inl a) =
-          subst (λ z. IsClear k (calls_of z (J ++ Forward t b ∷ [])) y ⊎ (Touches z k (J ++ Forward t b ∷ []) × IsAlone z k (J ++ Forward t b ∷ []) × Runs s G k h.value (V k) (calls_of z (J ++ Forward t b ∷ [])) y)) (sym a.1)
-          (subst (λ (z : Working). IsClear k (calls_of t (J ++ Forward t b ∷ [])) z ⊎ (Touches t k (J ++ Forward t b ∷ []) × IsAlone t k (J ++ Forward t b ∷ []) × Runs s G k h.value (V k) (calls_of t (J ++ Forward t b ∷ [])) z)) (own_state y (subst (λ z. kept_state s z (J ++ Forward t b ∷ []) ≡ Some (Active y)) a.1 e))
-          (inr (new_touch, on_alone k alone, own_runs k h.value (begun (h.txns t w x.before (subst (λ z. has cuts z ≡ false) a.1 uncut) (forward_still s t w b (Active v) x.forwards))))))
+      txns u y e uncut still (inl a) = own_txn k h.value u y a.1 e (inr (new_touch, on_alone k alone, own_runs k h.value (begun (h.txns t w x.before (subst (λ z. has cuts z ≡ false) a.1 uncut) (forward_still s t w b (Active v) x.forwards)))))
       txns u y e uncut still (inr a) = ⊎_elim clear runs (h.txns u y (other_state u (Active y) a.1 e) uncut still)
         where
           clear : IsClear k (calls_of u J) y → IsClear k (calls_of u (J ++ Forward t b ∷ [])) y ⊎ (Touches u k (J ++ Forward t b ∷ []) × IsAlone u k (J ++ Forward t b ∷ []) × Runs s G k h.value (V k) (calls_of u (J ++ Forward t b ∷ [])) y)

@@ -1,8 +1,9 @@
 -- The removals that a commit leaves: they stand dead, each in a slot of its own.
-use Rattle.std.proofs.Common.{◌≡◌, ℕ, Bool, true, false, cond, List, [], ◌∷◌, ◌++◌, refl, ap, sym, subst, ◌∙◌, ◌⊎◌, inl, inr, ⊎_elim, ◌≢◌, arith, append-nil}
+use Rattle.std.proofs.Common.{◌≡◌, ℕ, Bool, true, false, cond, List, [], ◌∷◌, ◌++◌, refl, ap, sym, subst, ◌∙◌, ◌⊎◌, inl, inr, ⊎_elim, ◌≢◌, append-nil}
 use Rattle.std.specs.Prelude.{⊤, reverse}
 use Rattle.std.proofs.lemmas.List.{reverse-append}
 use Rattle.std.proofs.lemmas.List.Elements.{filter-append}
+use Rattle.dali_lists.proofs.Numbers.{one_not_two}
 use Rattle.dali_geometry.specs.Sizes.{Sizes}
 use Rattle.dali_record.specs.declared.operations.Pending.{Pending}
 use Rattle.dali_record.specs.declared.operations.Undo.{Undo}
@@ -22,34 +23,17 @@ dead_of_none k (p ∷ ps) h = by_test (is_removal p.undo) (dead_of_none k ps h.1
     by_test true ih = (h.0, ih)
     by_test false ih = ih
 
+abbrev first_word : List ℕ → ℕ
+first_word [] = 0
+first_word (x ∷ xs) = x
+
 -- what an undo leaves isn't dead
 not_dead : (d : Undo) (xs ys : List ℕ) → undone_slot d xs ≡ 2 ∷ ys → ⊥
 not_dead (UndoFreeCell c) xs ys e = cc (e)
-not_dead (UndoReviveCell c) xs ys e = one_two (ap head e)
-  where
-    head : List ℕ → ℕ
-    head [] = 0
-    head (x ∷ zs) = x
-
-    one_two : ◌≡◌ {A = ℕ} 1 2 → ⊥
-    one_two h = omega (arith, h)
-not_dead (UndoRestore c n vs) xs ys e = one_two (ap head e)
-  where
-    head : List ℕ → ℕ
-    head [] = 0
-    head (x ∷ zs) = x
-
-    one_two : ◌≡◌ {A = ℕ} 1 2 → ⊥
-    one_two h = omega (arith, h)
+not_dead (UndoReviveCell c) xs ys e = one_not_two (ap first_word e)
+not_dead (UndoRestore c n vs) xs ys e = one_not_two (ap first_word e)
 not_dead (UndoFreeEntry c) xs ys e = cc (e)
-not_dead (UndoReviveEntry c) xs ys e = one_two (ap head e)
-  where
-    head : List ℕ → ℕ
-    head [] = 0
-    head (x ∷ zs) = x
-
-    one_two : ◌≡◌ {A = ℕ} 1 2 → ⊥
-    one_two h = omega (arith, h)
+not_dead (UndoReviveEntry c) xs ys e = one_not_two (ap first_word e)
 
 -- each of these is on another slot than p
 abbrev AllApart : ℕ → Pending → List Pending → Type 0

@@ -20,7 +20,7 @@ use Rattle.dali_slots.proofs.SlotUndos.{Leads, NoneOn, leads_none, none_reverse,
 use Rattle.dali_slots.proofs.ValueSlots.{Stands, Reached, stands_freed}
 use Rattle.dali_slots.proofs.RunningTxn.{Runs}
 use Rattle.dali_kept.proofs.WithoutLast.{left, Alters, touches_push, alters_push, yields_altered, yields_touched}
-use Rattle.dali_kept.proofs.Invariant.{AreDead, Apart, IsClear, IsAlone, Keyed, Knows, yields_left, yields_active, yields_committed, same_calls}
+use Rattle.dali_kept.proofs.Invariant.{AreDead, Apart, IsClear, IsAlone, Keyed, keyed_on, Knows, yields_left, yields_active, yields_committed, same_calls}
 use Rattle.dali_kept.proofs.OperationsKeep.{dead_none}
 
 -- a removal of the list is freed, and those behind it are left
@@ -88,22 +88,16 @@ module _ (s : Sizes) (cuts : List ℕ) (J : List Record) (W V : World) (F : Flag
   removals i xs e = ⊎_elim (λ a. let z : Some (IsOver qs) ≡ Some (IsOver xs) = sym x.after ∙ subst (λ j. kept_state s j (J ++ Solo t u b ∷ []) ≡ Some (IsOver xs)) a.1 e in inl (a.1, sym (cc (z)))) (λ a. ⊎_elim (λ c. inr (a.1, sym c ∙ e)) (λ c. let z : Some Over ≡ Some (IsOver xs) = sym c ∙ e in absurd (cc (z))) (x.beside i a.1)) (eqb_tells i u)
 
   off_solo : (k : ℕ) (start : Option (List ℕ)) → FreesSlot W V d → d.key ≢ k → Keyed s cuts J W F start k → Keyed s cuts (J ++ Solo t u b ∷ []) V F start k
-  off_solo k start frees off h = record {
-    value = h.value;
-    slots = h.slots;
-    holder = h.holder;
-    replayed = ap (λ cs. values_after (Some start) (on_key k cs)) same.2 ∙ h.replayed;
-    stands = h.stands;
-    reached = h.reached;
-    leads = subst (λ xs. Leads s k (reverse xs) (V k) h.slots) (sym (same_left h.holder)) (subst (λ (X : Part). Leads s k (reverse (left h.holder J)) X h.slots) (sym stay) h.leads);
-    others = alone_push k h.holder h.others;
-    altered = altered_push k h.altered;
-    txns = λ i y e uncut still. let z = running i y e in ⊎_elim (λ c. inl (subst (λ cs. IsClear k cs y) (sym (same.0 i)) c)) (λ c. inr (touches_push i k J (Solo t u b) c.0, alone_push k i c.1, subst (λ cs. Runs s F k h.value (V k) cs y) (sym (same.0 i)) (subst (λ (X : Part). Runs s F k h.value X (calls_of i J) y) (sym stay) c.2))) (h.txns i y z.1 uncut still);
-    dead = λ i xs e. ⊎_elim
-        (λ a. let y = h.dead u ps x.before in rw (a.0, a.1) (⊎_elim (λ n. inl (frees_none k ps qs d x.frees n).0) (λ n. inr (alters_push u k J (Solo t u b) n)) y.0, subst (λ (X : Part). AreDead k qs X) (sym stay) (frees_rest k ps qs d (W k) x.frees y.1)))
-        (λ a. let y = h.dead i xs a.1 in (⊎_elim (λ n. inl n) (λ n. inr (alters_push i k J (Solo t u b) n)) y.0, subst (λ (X : Part). AreDead k xs X) (sym stay) y.1))
-        (removals i xs e);
-  }
+  off_solo k start frees off h =
+      keyed_on s cuts J (Solo t u b) W V F start k h same.2
+      (subst (λ xs. Leads s k (reverse xs) (V k) h.slots) (sym (same_left h.holder)) (subst (λ (X : Part). Leads s k (reverse (left h.holder J)) X h.slots) (sym stay) h.leads))
+      (alone_push k h.holder h.others)
+      (altered_push k h.altered)
+      (λ i y e uncut still. let z = running i y e in ⊎_elim (λ c. inl (subst (λ cs. IsClear k cs y) (sym (same.0 i)) c)) (λ c. inr (touches_push i k J (Solo t u b) c.0, alone_push k i c.1, subst (λ cs. Runs s F k h.value (V k) cs y) (sym (same.0 i)) (subst (λ (X : Part). Runs s F k h.value X (calls_of i J) y) (sym stay) c.2))) (h.txns i y z.1 uncut still))
+      (λ i xs e. ⊎_elim
+      (λ a. let y = h.dead u ps x.before in rw (a.0, a.1) (⊎_elim (λ n. inl (frees_none k ps qs d x.frees n).0) (λ n. inr (alters_push u k J (Solo t u b) n)) y.0, subst (λ (X : Part). AreDead k qs X) (sym stay) (frees_rest k ps qs d (W k) x.frees y.1)))
+      (λ a. let y = h.dead i xs a.1 in (⊎_elim (λ n. inl n) (λ n. inr (alters_push i k J (Solo t u b) n)) y.0, subst (λ (X : Part). AreDead k xs X) (sym stay) y.1))
+      (removals i xs e))
     where
       stay : V k ≡ W k
       stay = ap (λ (X : World). X k) frees ∙ put_at-beside W d.key d.region (slot_of d.undo) [] k (λ e. off (sym e))

@@ -16,7 +16,7 @@ use Rattle.dali_index.specs.Records.{records}
 use Rattle.dali_listing.specs.declared.Listed.{Listed}
 use Rattle.dali_listing.specs.Listing.{pair_of, pairs_of, order, IsListing}
 
-abbrev row_of : ℕ × List ℕ → Listed
+abbrev pub row_of : ℕ × List ℕ → Listed
 row_of p = record { key = p.0; value = p.1 }
 
 pub in_pairs : (rows : List Listed) (row : Listed) → Contains rows row → Contains (pairs_of rows) (pair_of row)
@@ -25,7 +25,7 @@ in_pairs rows row h = (h.0, subst (λ n. h.0 < n) (sym (length-map rows pair_of)
 pub pairs_in : (rows : List Listed) (row : Listed) → Contains (pairs_of rows) (pair_of row) → Contains rows row
 pairs_in rows row h = (h.0, subst (λ n. h.0 < n) (length-map rows pair_of) h.1, ap row_of (sym (get_or-map pair_of rows h.0 row) ∙ h.2))
 
-abbrev alike : Listed → Listed → Bool
+abbrev pub alike : Listed → Listed → Bool
 alike x y = (x.key == y.key) && pointwise nat_eq x.value y.value
 
 pub one_row : (x y : Listed) → x.key ≡ y.key → x.value ≡ y.value → x ≡ y
@@ -38,7 +38,7 @@ alike_is_one x y h = one_row x y (keys (eqb_tells x.key y.key)) ((bytes_decides 
     keys (inl a) = a.1
     keys (inr a) = absurd (true≢false (sym (first_so (x.key == y.key) (pointwise nat_eq x.value y.value) h) ∙ a.0))
 
-in_order : IsTotalOrder order
+pub in_order : IsTotalOrder order
 in_order = then_total (on_total (λ (row : Listed). row.key) nat_cmp_total) (on_total (λ (row : Listed). row.value) nat_list_cmp_total)
 
 pub listing : (same : Listed → Listed → Bool) → IsEquivalence same → ((x y : Listed) → same x y ≡ eq_by_cmp order x y) → ((x y : Listed) → same x y ≡ true → x ≡ y) → (s : Sizes) (image : List (List ℕ)) (rows sorted : List Listed) → pairs_of rows ≡ records s image → IsPermutation rows sorted → IsSorted order sorted → IsListing s image (dedup same sorted)

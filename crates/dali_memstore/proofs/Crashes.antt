@@ -4,6 +4,7 @@ use Rattle.std.proofs.Common.{sym, ◌∙◌, ap, subst, arith, ⊎_elim}
 use Rattle.dali_store.specs.Store.{Files, file_of, Torn, TornIn, Follows, SameBut, Holds}
 use Rattle.dali_store.specs.declared.store.FileName.{FileName}
 use Rattle.dali_store.specs.declared.store.FileName.TheVariants.{Log, ImageA, ImageB, Anchor}
+use Rattle.dali_store.proofs.OneFile.{with_file, file_with, file_other}
 use Rattle.dali_memstore.specs.declared.disks.Disks.{Disks}
 use Rattle.dali_memstore.specs.declared.event.Event.{Event}
 use Rattle.dali_memstore.specs.declared.event.Event.TheVariants.{Wrote, Synced, Cut}
@@ -13,37 +14,6 @@ use Rattle.dali_memstore.specs.Sound.{AllSound, kept_sound, same_or_other, disk_
 use Rattle.dali_memstore.proofs.Mix.{mix}
 use Rattle.dali_memstore.proofs.Images.{wrote_image, kept_image, kept_fewer, cut_fewer_one, cut_only_one}
 use Rattle.dali_memstore.proofs.Images.{waits_one, cut_waits, kept_quiet, cut_quiet}
-
--- one file among four
-abbrev with_file : FileName → List ℕ → Files → Files
-with_file Log bytes c = record c { log = bytes }
-with_file ImageA bytes c = record c { a = bytes }
-with_file ImageB bytes c = record c { b = bytes }
-with_file Anchor bytes c = record c { anchor = bytes }
-
-file_with : (f : FileName) (bytes : List ℕ) (c : Files) → file_of f (with_file f bytes c) ≡ bytes
-file_with Log bytes c = refl
-file_with ImageA bytes c = refl
-file_with ImageB bytes c = refl
-file_with Anchor bytes c = refl
-
-file_other : (g f : FileName) (bytes : List ℕ) (c : Files) → g ≢ f → file_of g (with_file f bytes c) ≡ file_of g c
-file_other Log Log bytes c other = absurd (other refl)
-file_other Log ImageA bytes c other = refl
-file_other Log ImageB bytes c other = refl
-file_other Log Anchor bytes c other = refl
-file_other ImageA Log bytes c other = refl
-file_other ImageA ImageA bytes c other = absurd (other refl)
-file_other ImageA ImageB bytes c other = refl
-file_other ImageA Anchor bytes c other = refl
-file_other ImageB Log bytes c other = refl
-file_other ImageB ImageA bytes c other = refl
-file_other ImageB ImageB bytes c other = absurd (other refl)
-file_other ImageB Anchor bytes c other = refl
-file_other Anchor Log bytes c other = refl
-file_other Anchor ImageA bytes c other = refl
-file_other Anchor ImageB bytes c other = refl
-file_other Anchor Anchor bytes c other = absurd (other refl)
 
 -- an image of one file, where that file or another one was changed
 image_here : (f : FileName) (s : State) (ds : Disks) (c : Files)

@@ -1,11 +1,11 @@
 -- Each step keeps the system's part: a law of the whole core is one of the system alone, by regions of which nothing is known.
 use Rattle.std.proofs.Common.{◌≡◌, ℕ, zero, suc, ◌+◌, ◌<◌, Bool, true, false, cond, List, [], ◌∷◌, length, Option, Some, None, refl, ap, sym, subst, ◌∙◌, arith}
-use Rattle.std.specs.Prelude.{slice_get, replicate, get_or, IfSome, ◌^◌, ◌==◌}
+use Rattle.std.specs.Prelude.{slice_get, replicate, IfSome, ◌^◌, ◌==◌}
 use Rattle.std.specs.FinMap.{get}
-use Rattle.std.proofs.lemmas.List.{length-append, length-replicate}
 use Rattle.std.proofs.lemmas.Option.{slice_get_within}
 use Rattle.dali_geometry.specs.Sizes.{Sizes}
 use Rattle.dali_geometry.specs.Places.{regions, formatted_image}
+use Rattle.dali_geometry.proofs.Regions.{length_formatted}
 use Rattle.dali_record.specs.declared.operations.Block.{Block}
 use Rattle.dali_record.specs.declared.operations.Pending.{Pending}
 use Rattle.dali_record.specs.declared.records.Record.{Record}
@@ -18,7 +18,7 @@ use Rattle.dali_locks.proofs.Changes.{get-locks_with}
 use Rattle.dali_att.specs.Table.{Table, fresh_row, with_state}
 use Rattle.dali_att.specs.declared.state.State.TheVariants.{Live, Dead, Cleaning}
 use Rattle.dali_locks.proofs.Kept.{locks_without_at}
-use Rattle.dali_system.specs.State.{TxnRow, SystemState, CoreState, lock_of}
+use Rattle.dali_system.specs.State.{TxnRow, SystemState, CoreState, row_of, lock_of}
 use Rattle.dali_system.specs.Run.{RegionRun, Bases, RunsOn, blocks_on}
 use Rattle.dali_system.specs.Steps.{begun, op_logged, back_logged, solo_logged, done_logged, commit_logged, ended_logged, audit_begun, audit_ended, granted, refused, in_state, store_stopped, in_checkpoint, taken, committed_row}
 use Rattle.dali_system.specs.Keeps.{MayLogBlock}
@@ -29,7 +29,7 @@ use Rattle.dali_system.proofs.AuditSteps.{audit_begin_keeps, audit_end_keeps}
 use Rattle.dali_system.proofs.QuietSteps.{grant_keeps, refuse_keeps, state_keeps, stop_keeps, checkpoint_flag_keeps}
 use Rattle.dali_system.proofs.Flushes.{take_keeps}
 use Rattle.dali_system.proofs.Tables.{Puts, added, changed, dropped, ended, kept}
-use Rattle.dali_parts.specs.Systems.{SystemRun, IsInHand, MayLogHeld, MayLogFound, IsSystemStep, SystemKeeps, StepHasSystem, CountsLeft, IsLeft, SystemLeaves}
+use Rattle.dali_parts.specs.Systems.{SystemRun, IsInHand, MayLogHeld, MayLogFound, IsSystemStep, SystemKeeps, StepHasSystem, CountsLeft, IsLeft, SystemLeaves, changes_row, changes_lock, adds_record, changes_stop}
 
 -- ---- regions of which nothing is known, each with the hold of g
 abbrev scarred : ℕ → RegionState → RegionState
@@ -50,10 +50,8 @@ shadow g L y = record {
 scar_run : (base : List (List ℕ)) (e : Epoch) (r : ℕ) (g : RegionState) → IsProtected g → IfSome g.hold (λ h. h.read < 2 ^ 64) → RegionRun base e r (scarred (blocks_on r e.records) g)
 scar_run base e r g safe reads = record {
   protected = record {
-    size = safe.size;
-    back_size = safe.back_size;
-    fits = safe.fits;
-    back_fits = safe.back_fits;
+    words = safe.words;
+    back = safe.back;
     codeword = safe.codeword;
     rest = safe.rest;
     within = omega arith;
@@ -87,12 +85,6 @@ scars_get g E r (suc n) (suc i) h = scars_get g E (r + 1) n i (omega (arith, h))
 abbrev blank : Sizes → Bases
 blank s n = formatted_image s
 
-blank_length : (s : Sizes) → length (formatted_image s) ≡ regions s
-blank_length s =
-    let one : List ℕ = replicate 64 0 in
-    let other : List ℕ = 1 ∷ replicate 63 0 in
-    omega (arith, length-append (replicate s.index one) (replicate s.heap other), length-replicate s.index one, length-replicate s.heap other)
-
 shadow_runs : (g : RegionState) (L : List Record) (y : SystemState) → SystemRun y.sizes L y → IsProtected g → IfSome g.hold (λ h. h.read < 2 ^ 64) → RunsOn (blank y.sizes) L (shadow g L y)
 shadow_runs g L y run safe reads = record {
   log = run.log;
@@ -101,7 +93,7 @@ shadow_runs g L y run safe reads = record {
   locks = run.locks;
   stop = record { damage = run.damage; failed = run.failed; store = λ e. refl };
   whole = scars_length g (last_epoch L).records 0 (regions y.sizes);
-  base = blank_length y.sizes;
+  base = length_formatted y.sizes;
   regions = λ r h e. subst (λ z. RegionRun (formatted_image y.sizes) (last_epoch L) r z) (sym (scars_at g h (last_epoch L).records 0 (regions y.sizes) r e ∙ ap (λ k. scarred (blocks_on k (last_epoch L).records) g) (let f : 0 + r ≡ r = omega arith in f))) (scar_run (formatted_image y.sizes) (last_epoch L) r g safe reads);
 }
 
@@ -112,13 +104,8 @@ system_part bases L c run = record { log = run.log; counts = run.counts; table =
 abbrev zeros : RegionState
 zeros = loaded (replicate 64 0)
 
-small_zeros : (i n : ℕ) → get_or (replicate n 0) i 0 < 2 ^ 64
-small_zeros i zero = omega arith
-small_zeros zero (suc n) = omega arith
-small_zeros (suc i) (suc n) = small_zeros i n
-
 zeros_keep : IsProtected zeros
-zeros_keep = loaded_keeps (replicate 64 0) (length-replicate {A = ℕ} 64 0) (λ i. small_zeros i 64)
+zeros_keep = loaded_keeps (replicate 64 0) (refl, omega arith)
 
 -- ---- each step
 keeps_at : (L M : List Record) (y z e : SystemState) → (M ≡ L) × (z ≡ e) → SystemRun e.sizes L e → SystemRun z.sizes M z
@@ -237,127 +224,41 @@ puts_other old t row new puts u apart = puts u ∙ ap (λ (b : Bool). cond b row
 none_counted : (L M : List Record) (y z : SystemState) → M ≡ L → z.since ≡ y.since → z.records ≡ y.records → z.end ≡ y.end → z.next ≡ y.next → CountsLeft L y M z
 none_counted L M y z log since records end next = record { log = log; since = since; records = records; end = end; next = next }
 
+-- e, with the sizes, the requests and the marks of y
+abbrev beside : SystemState → SystemState → SystemState
+beside y e = record y { since = e.since; table = e.table; locks = e.locks; records = e.records; end = e.end; next = e.next; stop = e.stop }
+
+left_beside :
+    (L M : List Record) (y e : SystemState) (x : Step)
+    → ((u : ℕ) → changes_row y x u ≡ false → row_of e u ≡ row_of y u)
+    → ((u k : ℕ) → changes_lock x u k ≡ false → lock_of e u k ≡ lock_of y u k)
+    → (adds_record x ≡ false → CountsLeft L y M (beside y e))
+    → (changes_stop x ≡ false → e.stop ≡ y.stop)
+    → IsLeft L y x M (beside y e)
+left_beside L M y e x rows locks counts stop = record {
+  sizes = refl;
+  first = refl;
+  limit = refl;
+  rows = rows;
+  locks = locks;
+  counts = counts;
+  stop = stop;
+  refusals = λ h. refl;
+  taken = λ h. refl;
+  checking = λ h. refl;
+}
+
 pub system_leaves : SystemLeaves
-system_leaves L M y z Begins s = left_at L M y z (begun y) Begins s.1.1 (record {
-  sizes = refl;
-  first = refl;
-  limit = refl;
-  rows = λ u h. puts_other y.table y.next (Some fresh_row) _ (added y.table y.next fresh_row) u h;
-  locks = λ u l h. refl;
-  counts = λ h. absurd (cc);
-  stop = λ h. refl;
-  refusals = λ h. refl;
-  taken = λ h. refl;
-  checking = λ h. refl;
-})
-system_leaves L M y z (Operates t b) s = left_at L M y z (op_logged y t b) (Operates t b) s.3.1 (record {
-  sizes = refl;
-  first = refl;
-  limit = refl;
-  rows = λ u h. puts_other y.table t _ _ (kept y.table t b b.undo) u h;
-  locks = λ u l h. refl;
-  counts = λ h. absurd (cc);
-  stop = λ h. refl;
-  refusals = λ h. refl;
-  taken = λ h. refl;
-  checking = λ h. refl;
-})
-system_leaves L M y z (TakesBack t b) s = left_at L M y z (back_logged y t b) (TakesBack t b) s.2.1 (record {
-  sizes = refl;
-  first = refl;
-  limit = refl;
-  rows = λ u h. puts_other y.table t _ _ (dropped y.table t) u h;
-  locks = λ u l h. refl;
-  counts = λ h. absurd (cc);
-  stop = λ h. refl;
-  refusals = λ h. refl;
-  taken = λ h. refl;
-  checking = λ h. refl;
-})
-system_leaves L M y z (Frees p b) s = left_at L M y z (solo_logged y p b) (Frees p b) s.2.1 (record {
-  sizes = refl;
-  first = refl;
-  limit = refl;
-  rows = λ u h. refl;
-  locks = λ u l h. refl;
-  counts = λ h. absurd (cc);
-  stop = λ h. refl;
-  refusals = λ h. refl;
-  taken = λ h. refl;
-  checking = λ h. refl;
-})
-system_leaves L M y z (Answers t k a) s = left_at L M y z (done_logged y t k a) (Answers t k a) s.3.1 (record {
-  sizes = refl;
-  first = refl;
-  limit = refl;
-  rows = λ u h. refl;
-  locks = λ u l h. refl;
-  counts = λ h. absurd (cc);
-  stop = λ h. refl;
-  refusals = λ h. refl;
-  taken = λ h. refl;
-  checking = λ h. refl;
-})
-system_leaves L M y z (Commits t) s = left_at L M y z (commit_logged y t) (Commits t) s.2.1 (record {
-  sizes = refl;
-  first = refl;
-  limit = refl;
-  rows = λ u h. puts_other y.table t _ _ (changed y.table t committed_row) u h;
-  locks = λ u l h. refl;
-  counts = λ h. absurd (cc);
-  stop = λ h. refl;
-  refusals = λ h. refl;
-  taken = λ h. refl;
-  checking = λ h. refl;
-})
-system_leaves L M y z (Ends t) s = left_at L M y z (ended_logged y t) (Ends t) s.2.1 (record {
-  sizes = refl;
-  first = refl;
-  limit = refl;
-  rows = λ u h. puts_other y.table t None _ (ended y.table t) u h;
-  locks = λ u l h. locks_without_at y.locks t u l ∙ ap (λ (b : Bool). cond b None (lock_of y u l)) h;
-  counts = λ h. absurd (cc);
-  stop = λ h. refl;
-  refusals = λ h. refl;
-  taken = λ h. refl;
-  checking = λ h. refl;
-})
-system_leaves L M y z AuditBegins s = left_at L M y z (audit_begun y) AuditBegins s.2.1 (record {
-  sizes = refl;
-  first = refl;
-  limit = refl;
-  rows = λ u h. refl;
-  locks = λ u l h. refl;
-  counts = λ h. absurd (cc);
-  stop = λ h. refl;
-  refusals = λ h. refl;
-  taken = λ h. refl;
-  checking = λ h. refl;
-})
-system_leaves L M y z (AuditEnds b found) s = left_at L M y z (audit_ended y b found) (AuditEnds b found) s.1.1 (record {
-  sizes = refl;
-  first = refl;
-  limit = refl;
-  rows = λ u h. refl;
-  locks = λ u l h. refl;
-  counts = λ h. absurd (cc);
-  stop = λ h. absurd (cc);
-  refusals = λ h. refl;
-  taken = λ h. refl;
-  checking = λ h. refl;
-})
-system_leaves L M y z (Locks t k m) s = left_at L M y z (granted y t k m) (Locks t k m) s.2.1 (record {
-  sizes = refl;
-  first = refl;
-  limit = refl;
-  rows = λ u h. refl;
-  locks = λ u l h. get-locks_with y.locks t k m u l ∙ ap (λ (b : Bool). cond b (Some (stronger_mode (lock_of y u l) m)) (lock_of y u l)) h;
-  counts = λ h. none_counted L M y (granted y t k m) s.2.0 refl refl refl refl;
-  stop = λ h. refl;
-  refusals = λ h. refl;
-  taken = λ h. refl;
-  checking = λ h. refl;
-})
+system_leaves L M y z Begins s = left_at L M y z (begun y) Begins s.1.1 (left_beside L M y (begun y) Begins (λ u h. puts_other y.table y.next (Some fresh_row) _ (added y.table y.next fresh_row) u h) (λ u l h. refl) (λ h. absurd (cc)) (λ h. refl))
+system_leaves L M y z (Operates t b) s = left_at L M y z (op_logged y t b) (Operates t b) s.3.1 (left_beside L M y (op_logged y t b) (Operates t b) (λ u h. puts_other y.table t _ _ (kept y.table t b b.undo) u h) (λ u l h. refl) (λ h. absurd (cc)) (λ h. refl))
+system_leaves L M y z (TakesBack t b) s = left_at L M y z (back_logged y t b) (TakesBack t b) s.2.1 (left_beside L M y (back_logged y t b) (TakesBack t b) (λ u h. puts_other y.table t _ _ (dropped y.table t) u h) (λ u l h. refl) (λ h. absurd (cc)) (λ h. refl))
+system_leaves L M y z (Frees p b) s = left_at L M y z (solo_logged y p b) (Frees p b) s.2.1 (left_beside L M y (solo_logged y p b) (Frees p b) (λ u h. refl) (λ u l h. refl) (λ h. absurd (cc)) (λ h. refl))
+system_leaves L M y z (Answers t k a) s = left_at L M y z (done_logged y t k a) (Answers t k a) s.3.1 (left_beside L M y (done_logged y t k a) (Answers t k a) (λ u h. refl) (λ u l h. refl) (λ h. absurd (cc)) (λ h. refl))
+system_leaves L M y z (Commits t) s = left_at L M y z (commit_logged y t) (Commits t) s.2.1 (left_beside L M y (commit_logged y t) (Commits t) (λ u h. puts_other y.table t _ _ (changed y.table t committed_row) u h) (λ u l h. refl) (λ h. absurd (cc)) (λ h. refl))
+system_leaves L M y z (Ends t) s = left_at L M y z (ended_logged y t) (Ends t) s.2.1 (left_beside L M y (ended_logged y t) (Ends t) (λ u h. puts_other y.table t None _ (ended y.table t) u h) (λ u l h. locks_without_at y.locks t u l ∙ ap (λ (b : Bool). cond b None (lock_of y u l)) h) (λ h. absurd (cc)) (λ h. refl))
+system_leaves L M y z AuditBegins s = left_at L M y z (audit_begun y) AuditBegins s.2.1 (left_beside L M y (audit_begun y) AuditBegins (λ u h. refl) (λ u l h. refl) (λ h. absurd (cc)) (λ h. refl))
+system_leaves L M y z (AuditEnds b found) s = left_at L M y z (audit_ended y b found) (AuditEnds b found) s.1.1 (left_beside L M y (audit_ended y b found) (AuditEnds b found) (λ u h. refl) (λ u l h. refl) (λ h. absurd (cc)) (λ h. absurd (cc)))
+system_leaves L M y z (Locks t k m) s = left_at L M y z (granted y t k m) (Locks t k m) s.2.1 (left_beside L M y (granted y t k m) (Locks t k m) (λ u h. refl) (λ u l h. get-locks_with y.locks t k m u l ∙ ap (λ (b : Bool). cond b (Some (stronger_mode (lock_of y u l) m)) (lock_of y u l)) h) (λ h. none_counted L M y (granted y t k m) s.2.0 refl refl refl refl) (λ h. refl))
 system_leaves L M y z (Refuses t k m q) s = left_at L M y z (refused y t k m q) (Refuses t k m q) s.2.1 (record {
   sizes = refl;
   first = refl;
@@ -370,126 +271,10 @@ system_leaves L M y z (Refuses t k m q) s = left_at L M y z (refused y t k m q) 
   taken = λ h. refl;
   checking = λ h. refl;
 })
-system_leaves L M y z (OnRegion r x) s = left_at L M y z (y) (OnRegion r x) s.1 (record {
-  sizes = refl;
-  first = refl;
-  limit = refl;
-  rows = λ u h. refl;
-  locks = λ u l h. refl;
-  counts = λ h. none_counted L M y (y) s.0 refl refl refl refl;
-  stop = λ h. refl;
-  refusals = λ h. refl;
-  taken = λ h. refl;
-  checking = λ h. refl;
-})
-system_leaves L M y z (Passes b r) s = left_at L M y z (y) (Passes b r) s.1 (record {
-  sizes = refl;
-  first = refl;
-  limit = refl;
-  rows = λ u h. refl;
-  locks = λ u l h. refl;
-  counts = λ h. none_counted L M y (y) s.0 refl refl refl refl;
-  stop = λ h. refl;
-  refusals = λ h. refl;
-  taken = λ h. refl;
-  checking = λ h. refl;
-})
-system_leaves L M y z (Recovers r) s = left_at L M y z (y) (Recovers r) s.1 (record {
-  sizes = refl;
-  first = refl;
-  limit = refl;
-  rows = λ u h. refl;
-  locks = λ u l h. refl;
-  counts = λ h. none_counted L M y (y) s.0 refl refl refl refl;
-  stop = λ h. refl;
-  refusals = λ h. refl;
-  taken = λ h. refl;
-  checking = λ h. refl;
-})
-system_leaves L M y z Flushes s = left_at L M y z (y) Flushes s.1 (record {
-  sizes = refl;
-  first = refl;
-  limit = refl;
-  rows = λ u h. refl;
-  locks = λ u l h. refl;
-  counts = λ h. none_counted L M y (y) s.0 refl refl refl refl;
-  stop = λ h. refl;
-  refusals = λ h. refl;
-  taken = λ h. refl;
-  checking = λ h. refl;
-})
-system_leaves L M y z (Faults n) s = left_at L M y z (y) (Faults n) s.1 (record {
-  sizes = refl;
-  first = refl;
-  limit = refl;
-  rows = λ u h. refl;
-  locks = λ u l h. refl;
-  counts = λ h. none_counted L M y (y) s.0 refl refl refl refl;
-  stop = λ h. refl;
-  refusals = λ h. refl;
-  taken = λ h. refl;
-  checking = λ h. refl;
-})
-system_leaves L M y z (ReadFails n) s = left_at L M y z (y) (ReadFails n) s.1 (record {
-  sizes = refl;
-  first = refl;
-  limit = refl;
-  rows = λ u h. refl;
-  locks = λ u l h. refl;
-  counts = λ h. none_counted L M y (y) s.0 refl refl refl refl;
-  stop = λ h. refl;
-  refusals = λ h. refl;
-  taken = λ h. refl;
-  checking = λ h. refl;
-})
-system_leaves L M y z (Dies t o) s = left_at L M y z (in_state y t (Dead o)) (Dies t o) s.1.1 (record {
-  sizes = refl;
-  first = refl;
-  limit = refl;
-  rows = λ u h. puts_other y.table t _ _ (changed y.table t (with_state (Dead o))) u h;
-  locks = λ u l h. refl;
-  counts = λ h. none_counted L M y (in_state y t (Dead o)) s.1.0 refl refl refl refl;
-  stop = λ h. refl;
-  refusals = λ h. refl;
-  taken = λ h. refl;
-  checking = λ h. refl;
-})
-system_leaves L M y z (Claims t) s = left_at L M y z (in_state y t (Cleaning s.0)) (Claims t) s.2.1 (record {
-  sizes = refl;
-  first = refl;
-  limit = refl;
-  rows = λ u h. puts_other y.table t _ _ (changed y.table t (with_state (Cleaning s.0))) u h;
-  locks = λ u l h. refl;
-  counts = λ h. none_counted L M y (in_state y t (Cleaning s.0)) s.2.0 refl refl refl refl;
-  stop = λ h. refl;
-  refusals = λ h. refl;
-  taken = λ h. refl;
-  checking = λ h. refl;
-})
-system_leaves L M y z (GivesBack t o) s = left_at L M y z (in_state y t (Dead o)) (GivesBack t o) s.2.1 (record {
-  sizes = refl;
-  first = refl;
-  limit = refl;
-  rows = λ u h. puts_other y.table t _ _ (changed y.table t (with_state (Dead o))) u h;
-  locks = λ u l h. refl;
-  counts = λ h. none_counted L M y (in_state y t (Dead o)) s.2.0 refl refl refl refl;
-  stop = λ h. refl;
-  refusals = λ h. refl;
-  taken = λ h. refl;
-  checking = λ h. refl;
-})
-system_leaves L M y z Stops s = left_at L M y z (store_stopped y) Stops s.1 (record {
-  sizes = refl;
-  first = refl;
-  limit = refl;
-  rows = λ u h. refl;
-  locks = λ u l h. refl;
-  counts = λ h. none_counted L M y (store_stopped y) s.0 refl refl refl refl;
-  stop = λ h. absurd (cc);
-  refusals = λ h. refl;
-  taken = λ h. refl;
-  checking = λ h. refl;
-})
+system_leaves L M y z (Dies t o) s = left_at L M y z (in_state y t (Dead o)) (Dies t o) s.1.1 (left_beside L M y (in_state y t (Dead o)) (Dies t o) (λ u h. puts_other y.table t _ _ (changed y.table t (with_state (Dead o))) u h) (λ u l h. refl) (λ h. none_counted L M y (in_state y t (Dead o)) s.1.0 refl refl refl refl) (λ h. refl))
+system_leaves L M y z (Claims t) s = left_at L M y z (in_state y t (Cleaning s.0)) (Claims t) s.2.1 (left_beside L M y (in_state y t (Cleaning s.0)) (Claims t) (λ u h. puts_other y.table t _ _ (changed y.table t (with_state (Cleaning s.0))) u h) (λ u l h. refl) (λ h. none_counted L M y (in_state y t (Cleaning s.0)) s.2.0 refl refl refl refl) (λ h. refl))
+system_leaves L M y z (GivesBack t o) s = left_at L M y z (in_state y t (Dead o)) (GivesBack t o) s.2.1 (left_beside L M y (in_state y t (Dead o)) (GivesBack t o) (λ u h. puts_other y.table t _ _ (changed y.table t (with_state (Dead o))) u h) (λ u l h. refl) (λ h. none_counted L M y (in_state y t (Dead o)) s.2.0 refl refl refl refl) (λ h. refl))
+system_leaves L M y z Stops s = left_at L M y z (store_stopped y) Stops s.1 (left_beside L M y (store_stopped y) Stops (λ u h. refl) (λ u l h. refl) (λ h. none_counted L M y (store_stopped y) s.0 refl refl refl refl) (λ h. absurd (cc)))
 system_leaves L M y z (Checkpoints b) s = left_at L M y z (in_checkpoint y b) (Checkpoints b) s.1.1 (record {
   sizes = refl;
   first = refl;
@@ -514,3 +299,4 @@ system_leaves L M y z Takes s = left_at L M y z (taken y) Takes s.1 (record {
   taken = λ h. absurd (cc);
   checking = λ h. refl;
 })
+system_leaves L M y z x s = left_at L M y z y x s.1 (left_beside L M y y x (λ u h. refl) (λ u l h. refl) (λ h. none_counted L M y y s.0 refl refl refl refl) (λ h. refl))

@@ -3,7 +3,7 @@
 --     ExitsWith number      the run ended with a status of this number; what was committed survives, where no damage escapes; and the headline holds of each of its
 --                           states, and of the store that comes back
 --     Refuses number        there was no memory before the run: nothing was read or run, and the last line was written
-use Rattle.std.specs.Prelude.{◌≡◌, ℕ, List, Option}
+use Rattle.std.specs.Prelude.{◌≡◌, ℕ, List}
 use Rattle.dali_arguments.specs.Meaning.{meaning}
 use Rattle.dali_record.specs.declared.records.Record.{Record}
 use Rattle.dali_record.specs.Log.{committed}
@@ -12,7 +12,7 @@ use Rattle.dali_run.specs.declared.status.Status.TheVariants.{Done, BadWords, Ba
 use Rattle.dali_run.specs.Ends.{Course, HasEnded, LastLine}
 use Rattle.dali_run.specs.Headline.{Kept}
 use Rattle.dali_run.specs.Survives.{IsOwn, IsHonest, Survives}
-use Rattle.dali_store.specs.Store.{Files}
+use Rattle.dali_store.specs.declared.store.Store.{Ghosts}
 
 abbrev pub number_of : Status → ℕ
 number_of Done = 0
@@ -28,18 +28,18 @@ number_of Formatted = 9
 number_of OutOfMemory = 10
 number_of (LogFull end limit) = 11
 
-module _ {V : Type 0} (told : V → Option Files) (may_leave : V → Files → Type 0) (moment : V → ℕ) (left_since : V → ℕ → Files → Type 0) (faults : V → ℕ) (cuts : V → ℕ → Option Files) where
+module _ {V : Type 0} (g : Ghosts V) where
   pub record ExitsWith (words : List (List ℕ)) (c : Course V) (number : ℕ) : Type 0 where
     pub status : Status
     pub is_number : number ≡ number_of status
-    pub ended : HasEnded told may_leave moment left_since faults cuts words c status
+    pub ended : HasEnded g words c status
     pub survives :
-        (base : List Record) → IsOwn told may_leave base c.store
-        → IsHonest told may_leave moment left_since faults cuts c ended.mid ended.count (meaning words) status ended.ended
-        → Survives told may_leave moment left_since faults cuts c ended.mid ended.count base (meaning words) status ended.ended
+        (base : List Record) → IsOwn g base c.store
+        → IsHonest g c ended.mid ended.count (meaning words) status ended.ended
+        → Survives g c ended.mid ended.count base (meaning words) status ended.ended
     pub headline :
-        (base : List Record) → IsOwn told may_leave base c.store
-        → Kept told may_leave moment left_since faults cuts c ended.mid ended.count (committed base) (meaning words) status ended.ended
+        (base : List Record) → IsOwn g base c.store
+        → Kept g c ended.mid ended.count (committed base) (meaning words) status ended.ended
 
 pub record Refuses {V : Type 0} (c : Course V) (number : ℕ) : Type 0 where
   pub is_number : number ≡ number_of OutOfMemory

@@ -41,9 +41,10 @@ pub fn run_with<R: Threads + Wait + Sync, S: Source, K: Sink, V: Store + Send>(
     sink: &mut K,
     store: V,
 ) -> (u8, V)
-    ensures exits { IfOk words (λ ws. ExitsWith V.told V.may_leave V.moment V.left_since V.faults V.cuts (map string_bytes ws.items)
-        (course S.left S.faults K.taken K.faults source.old source.new sink.old sink.new store result.1) result.0) }
-    ensures refuses { OnErr words (Refuses (course S.left S.faults K.taken K.faults source.old source.new sink.old sink.new store result.1) result.0) }
+    ensures exits { IfOk words (λ ws. ExitsWith V.Store (map string_bytes ws.items)
+        (course S.Source K.Sink source.old source.new sink.old sink.new store result.1) result.0) }
+    ensures refuses { OnErr words
+        (Refuses (course S.Source K.Sink source.old source.new sink.old sink.new store result.1) result.0) }
 {
     match words {
         Ok(words) => {

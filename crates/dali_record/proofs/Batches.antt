@@ -207,14 +207,14 @@ pub first_of_plain : (B : List Record) → list_any separates B ≡ false → is
 first_of_plain [] h = refl
 first_of_plain (r ∷ B) h = ap not (none_restarted B (or_parts (separates r) (list_any separates B) h).1)
 
-abbrev all_of : List (List Record) → List Record
+abbrev pub all_of : List (List Record) → List Record
 all_of bs = flat_map (λ b. b) bs
 
 all_more : (bs : List (List Record)) (B : List Record) → all_of (bs ++ B ∷ []) ≡ all_of bs ++ B
 all_more bs B = flat_map-append (λ b. b) bs (B ∷ []) ∙ ap (λ zs. all_of bs ++ zs) (append-nil B)
 
 -- the image's place is still between two batches
-abbrev Placed : List (List Record) → ℕ → List Record → Type 0
+abbrev pub Placed : List (List Record) → ℕ → List Record → Type 0
 Placed bs place front =
     (k : ℕ) × (all_of (take k bs) ≡ front) × (place ≡ sum_by batch_length (take k bs))
     × ((j : ℕ) (b : List Record) → k ≤ j → slice_get bs j ≡ Some b → is_restarted_first b ≡ true)
@@ -229,7 +229,7 @@ got_none [] j b le at = cc
 got_none (c ∷ cs) zero b le at = omega (arith, le)
 got_none (c ∷ cs) (suc j) b le at = got_none cs j b (omega (arith, le)) at
 
-placed_still : (bs : List (List Record)) (B front : List Record) (place : ℕ) → is_restarted_first B ≡ true → Placed bs place front → Placed (bs ++ B ∷ []) place front
+pub placed_still : (bs : List (List Record)) (B front : List Record) (place : ℕ) → is_restarted_first B ≡ true → Placed bs place front → Placed (bs ++ B ∷ []) place front
 placed_still bs B front place first p = ⊎_elim past within (cases_lt (length bs) p.0)
   where
     within : p.0 ≤ length bs → Placed (bs ++ B ∷ []) place front

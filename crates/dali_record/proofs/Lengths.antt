@@ -1,5 +1,5 @@
 -- How many bytes spell a record.
-use Rattle.std.proofs.Common.{◌≡◌, ℕ, ◌+◌, ◌*◌, true, false, List, [], ◌∷◌, ◌++◌, length, Option, Some, None, refl, ap, ◌∙◌, arith, length-append}
+use Rattle.std.proofs.Common.{◌≡◌, ℕ, ◌+◌, ◌*◌, true, List, [], ◌∷◌, ◌++◌, length, Option, Some, None, refl, ap, ◌∙◌, arith, length-append}
 use Rattle.std.specs.Prelude.{flat_map}
 use Rattle.std.proofs.lemmas.List.Concat.{flat_map-cons}
 use Rattle.dali_bytes.specs.Fields.{number32, number64}
@@ -7,7 +7,7 @@ use Rattle.dali_bytes.proofs.Numbers.{length-number32, length-number64}
 use Rattle.dali_record.specs.declared.operations.Op.{Op}
 use Rattle.dali_record.specs.declared.operations.Op.TheVariants.{Add, Put, Change, Restore}
 use Rattle.dali_record.specs.declared.operations.Outcome.{Outcome}
-use Rattle.dali_record.specs.declared.operations.Outcome.TheVariants.{Found, Absent, Added, NoEntry, Killed, Put as PutIn, NoCell, Value, Changed, NotLive, OtherKey, OddLength, Undone}
+use Rattle.dali_record.specs.declared.operations.Outcome.TheVariants.{Found, Absent, Value, Changed, NotLive, OtherKey, OddLength, Undone}
 use Rattle.dali_record.specs.declared.operations.Undo.{Undo}
 use Rattle.dali_record.specs.declared.operations.Undo.TheVariants.{FreeCell as UndoFreeCell, ReviveCell as UndoReviveCell, Restore as UndoRestore, FreeEntry as UndoFreeEntry, ReviveEntry as UndoReviveEntry}
 use Rattle.dali_record.specs.declared.operations.Block.{Block}
@@ -43,18 +43,13 @@ length-op _ h = refl
 pub length-outcome : (o : Outcome) → length (outcome_bytes o) ≡ outcome_length o
 length-outcome (Found e p) = omega (arith, length-number64 p)
 length-outcome (Absent true) = refl
-length-outcome (Absent false) = refl
-length-outcome (Added e) = refl
-length-outcome NoEntry = refl
-length-outcome Killed = refl
-length-outcome (PutIn c) = refl
-length-outcome NoCell = refl
 length-outcome (Value v) = omega arith
 length-outcome Changed = refl
 length-outcome (NotLive n) = omega (arith, length-number64 n)
 length-outcome (OtherKey n) = omega (arith, length-number64 n)
 length-outcome (OddLength n) = omega (arith, length-number64 n)
 length-outcome Undone = refl
+length-outcome _ = refl
 
 pub length-undo : (u : Option Undo) → MayBeUndo u → length (undo_bytes u) ≡ undo_length u
 length-undo None h = refl

@@ -1,5 +1,5 @@
 -- What each operation gives on 64 words, row by row.
-use Rattle.std.proofs.Common.{◌≡◌, ℕ, suc, ◌+◌, ◌*◌, ◌^◌, ◌<◌, ◌≤◌, Bool, true, false, cond, not, ◌&&◌, List, [], ◌∷◌, ◌++◌, length, map, get_or, Option, Some, None, refl, sym, ap, subst, ◌∙◌, inl, inr, arith, length-take, length-drop}
+use Rattle.std.proofs.Common.{◌≡◌, ℕ, ◌+◌, ◌*◌, ◌^◌, ◌<◌, ◌≤◌, Bool, true, false, cond, not, ◌&&◌, List, [], ◌∷◌, ◌++◌, length, map, Option, Some, None, refl, sym, ap, subst, ◌∙◌, inl, inr, arith, length-take, length-drop}
 use Rattle.std.specs.Prelude.{◌==◌, nat_le, zip, drop}
 use Rattle.std.specs.List.{AllByRecursion}
 use Rattle.std.proofs.lemmas.Bool.{and_parts, leb-true, le-leb}
@@ -9,7 +9,7 @@ use Rattle.dali_lists.proofs.Tests.{all_three_true}
 use Rattle.dali_words.specs.declared.Effect.{Effect}
 use Rattle.dali_words.specs.declared.KillOutcome.{KillOutcome}
 use Rattle.dali_words.specs.declared.KillOutcome.TheVariants.{NotLive as KillNotLive, OtherKey as KillOtherKey, OddLength as KillOddLength, Killed as KillKilled}
-use Rattle.dali_words.specs.Words.{under, mask_of}
+use Rattle.dali_words.specs.Words.{under, mask_of, AreWords}
 use Rattle.dali_words.specs.Values.{is_size, IsValue, packed, unpacked}
 use Rattle.dali_words.specs.Effects.{effect_of}
 use Rattle.dali_words.proofs.Masks.{IsIn, in_right, length-write_all}
@@ -37,7 +37,7 @@ use Rattle.dali_record.specs.declared.operations.Undo.{Undo}
 use Rattle.dali_record.specs.declared.operations.Undo.TheVariants.{FreeCell as UndoFreeCell, ReviveCell as UndoReviveCell, Restore as UndoRestore, FreeEntry as UndoFreeEntry, ReviveEntry as UndoReviveEntry}
 use Rattle.dali_record.specs.Spelling.{Is32, Is64, IsCell, IsEntry, AreFive, IsOperation, IsOutcome, MayBeUndo, is_outcome_of, undoes, is_within, IsBlock}
 use Rattle.dali_record.specs.Operations.{effect, looked, added, undo_of_add, killed, undo_of_kill, stored, undo_of_put, read, changed, undo_of_change}
-use Rattle.dali_record.specs.Blocks.{made, AreWords}
+use Rattle.dali_record.specs.Blocks.{made}
 use Rattle.dali_record.proofs.Makes.{all_get, all_take, all_drop, all_written, all_under, xor_small, mask_small, members, within, packed_words, unpacked_is}
 
 -- what the operation does, reading and writing these words, can be spelled
@@ -334,8 +334,3 @@ made_is_block op key r ws is k region words = record {
 
     inside : is_within (effect op key ws).0.write (effect op key ws).0.read ≡ true
     inside = ap (λ w. is_within w (effect op key ws).0.read) writes ∙ ap (λ r. is_within (mask_of (map (λ p. p.0) m.writes)) r) reads ∙ within (map (λ p. p.0) m.writes) m.reads m.inside
-
--- words that each fit
-pub all_fit : (ws : List ℕ) → ((i : ℕ) → get_or ws i 0 < 2 ^ 64) → AllByRecursion Is64 ws
-all_fit [] h = tt
-all_fit (w ∷ ws) h = (h 0, all_fit ws (λ i. h (suc i)))

@@ -34,6 +34,11 @@ rules_state_push s L r = fold_push (rules_next s) (Some rules_start) L r
 pub cut_push : (L : List Record) (r : Record) → cut (L ++ r ∷ []) ≡ cut_step (cut L) r
 cut_push L r = fold_push cut_step _ L r
 
+pub none_now : (Y : List Record) (r : Record) → separates r ≡ true → (last_epoch (Y ++ r ∷ [])).records ≡ []
+none_now Y (Format i j) e = ap (λ (c : Cut). c.now.records) (cut_push Y (Format i j))
+none_now Y (Restarted rs ds) e = ap (λ (c : Cut). c.now.records) (cut_push Y (Restarted rs ds))
+none_now Y _ e = absurd (cc)
+
 pub redo_all_push : (base : List (List ℕ)) (L : List Record) (r : Record) → redo_all base (L ++ r ∷ []) ≡ redo (redo_all base L) r
 redo_all_push base L r = fold_push redo base L r
 

@@ -1,20 +1,16 @@
 -- Blocks.
---     AreWords ws            the words of a region: 64 numbers of 64 bits
 --     made ws key r op           the block that the operation gives on the words ws of region r
 --     IsSoundOn ws b             b is the block that its operation gives on these words
 --     rewritten b ws             ws with the new words of b
-use Rattle.std.specs.Prelude.{◌≡◌, ℕ, ◌<◌, ◌^◌, Bool, List, length}
-use Rattle.std.specs.List.{AllByRecursion}
+-- the words of a region and of an image, for who doesn't list dali_words
+pub use Rattle.dali_words.specs.Words.{AreWords, AllAreWords}
+use Rattle.std.specs.Prelude.{◌≡◌, ℕ, Bool, List}
 use Rattle.dali_words.specs.Words.{xor_under, under, write_under}
 use Rattle.dali_record.specs.declared.operations.Op.{Op}
 use Rattle.dali_record.specs.declared.operations.Block.{Block}
 use Rattle.dali_record.specs.declared.operations.Pending.{Pending}
 use Rattle.dali_record.specs.declared.operations.Undo.{Undo}
 use Rattle.dali_record.specs.Operations.{effect, changes}
-
--- the words of a region
-abbrev pub AreWords : List ℕ → Type 0
-AreWords ws = (length ws ≡ 64) × AllByRecursion (λ w. w < 2 ^ 64) ws
 
 abbrev pub made : List ℕ → ℕ → ℕ → Op → Block
 made ws key r op =

@@ -321,18 +321,12 @@ pub record IsBlock (b : Block) : Type 0 where
 
 -- the operations of calls, those that take back, and those that free what a removal left
 abbrev pub is_forward : Op → Bool
-is_forward Look = true
-is_forward (Add place) = true
-is_forward (KillEntry entry) = true
-is_forward (Put v) = true
-is_forward (Read cell) = true
-is_forward (Change cell v) = true
-is_forward (KillCell cell) = true
 is_forward (FreeCell cell) = false
 is_forward (ReviveCell cell) = false
 is_forward (Restore cell n words) = false
 is_forward (FreeEntry entry) = false
 is_forward (ReviveEntry entry) = false
+is_forward _ = true
 
 abbrev pub is_back : Op → Bool
 is_back op = not (is_forward op)

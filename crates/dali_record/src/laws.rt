@@ -4,13 +4,13 @@
 //! that the engine makes.
 ghost use Rattle.std.specs.Prelude.{◌≡◌, ◌<◌, ◌≤◌, ◌++◌, [], ◌∷◌, ◌==◌, not, true, false, List, ℕ, Bool, Some, IsSome, length, bit_xor};
 ghost use Rattle.dali_geometry.specs.Sizes.{Sizes};
-ghost use Rattle.dali_words.specs.Words.{AgreeUnder};
+ghost use Rattle.dali_words.specs.Words.{AgreeUnder, AreWords};
 ghost use Rattle.dali_record.specs.declared.operations.Op.{Op};
 ghost use Rattle.dali_record.specs.declared.operations.Block.{Block};
 ghost use Rattle.dali_record.specs.declared.records.Record.{Record};
 ghost use Rattle.dali_record.specs.declared.records.Record.TheVariants.{Restarted};
 ghost use Rattle.dali_record.specs.Spelling.{Is32, Is64, IsOperation, IsBlock, CanBeSpelled, spelling, record_length};
-ghost use Rattle.dali_record.specs.Blocks.{AreWords, made, IsSoundOn, changes_item};
+ghost use Rattle.dali_record.specs.Blocks.{made, IsSoundOn, changes_item};
 ghost use Rattle.dali_record.specs.Log.{Touch, touch_of, touch_at, undos_of, undo_step, calls_of, committed};
 ghost use Rattle.std.specs.List.{list_any};
 ghost use Rattle.dali_record.specs.Epochs.{separates, cut, cut_step, last_epoch, clean_place, clean_step, failing, failing_step, recovered_epoch};

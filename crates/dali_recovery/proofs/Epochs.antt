@@ -41,7 +41,7 @@ use Rattle.dali_recovery.specs.Standing.{Begins, Fails, Finds, FindsDeleted, Fol
 use Rattle.dali_recovery.specs.declared.scan.Scan.{Scan}
 use Rattle.dali_recovery.specs.declared.recovery.Recovery.{Recovery}
 use Rattle.dali_recovery.specs.declared.recovery.Recovered.{Recovered}
-use Rattle.dali_recovery.proofs.Passing.{may_not, same_redo}
+use Rattle.dali_recovery.proofs.Passing.{may_not, same_redo, stands_with}
 
 none_at : (m : Table Pending) (t : ℕ) → m ≡ finite.empty → undos_at m t ≡ []
 none_at m t e = ap (λ o. undos_at o t) e ∙ ap (λ o. option_map_or (λ row. row.undos) o []) (finite.get-empty {X = Entry Pending} nat_cmp t)
@@ -361,29 +361,11 @@ pub scans_on : (x : Recovery) (z : Scan) (clean : ℕ) (failing : List ℕ) → 
 scans_on x z clean failing first is also follows = record { stands = stands; assumes = (is, also) }
   where
     stands : StandsOn x (record x { scan = Some z })
-    stands s n c st = record {
-      geometry = st.geometry;
-      sizes = st.sizes;
-      image = st.image;
-      positive = st.positive;
-      behind = st.behind;
-      counted = st.counted;
-      fresh = st.fresh;
-      redoes = assumes_other c.image x.redo (assumed_by x.scan c.known.first) (assumed_by (Some z) c.known.first) c.known c.known.seen none (sym (first_is x.scan c.known.first)) st.redoes;
-      follows = subst (λ g. FollowsBy g (Some z) c.known.first c.known) st.geometry (follows c.known (assumed_by (Some z) c.known.first) is also (begins_with (undamaged c.known.first) (assumed_by (Some z) c.known.first) c.known x.redo.table refl (st.begins none)));
-      begins = st.begins;
-      first = st.first;
-      clean = st.clean;
-      failing = st.failing;
-      number = st.number;
-      next = st.next;
-      audits = st.audits;
-      failed = st.failed;
-      fails = st.fails;
-      restarted = st.restarted;
-      rolled = st.rolled;
-      deleted = st.deleted;
-    }
+    stands s n c st =
+        stands_with s n x c (Some z) x.redo x.audits st st.sizes
+        (assumes_other c.image x.redo (assumed_by x.scan c.known.first) (assumed_by (Some z) c.known.first) c.known c.known.seen none (sym (first_is x.scan c.known.first)) st.redoes)
+        (subst (λ g. FollowsBy g (Some z) c.known.first c.known) st.geometry (follows c.known (assumed_by (Some z) c.known.first) is also (begins_with (undamaged c.known.first) (assumed_by (Some z) c.known.first) c.known x.redo.table refl (st.begins none))))
+        st.begins st.audits
       where
         none : c.known.seen ≡ []
         none = nil_from_length c.known.seen (omega (arith, st.counted, st.number, st.first, first))

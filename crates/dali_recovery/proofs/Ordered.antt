@@ -18,7 +18,7 @@ use Rattle.dali_redo.specs.Redoing.{Redoing, Knows, breaks, is_tested, status_at
 use Rattle.dali_redo.specs.Steps.{Applies, Skips}
 use Rattle.dali_redo.specs.declared.error.RedoError.{RedoError}
 use Rattle.dali_redo.specs.declared.error.RedoError.TheVariants.{Misfit as RedoMisfit}
-use Rattle.dali_redo.proofs.Rising.{Up, keys_up, up_filter}
+use Rattle.dali_history.proofs.Rising.{Up, keys_up, up_filter}
 use Rattle.dali_redo.proofs.Told.{tests_rules}
 use Rattle.dali_recovery.specs.Standing.{Ascend, IsOrdered, IsOrderedOut, IsRecovered, JudgedBy, KeepsOrder, MakesOrdered, Passes, Reopens, passed}
 use Rattle.dali_recovery.specs.declared.scan.Scan.{Scan}

@@ -1,6 +1,7 @@
 -- Behind a record within an epoch.
-use Rattle.std.proofs.Common.{◌≡◌, ℕ, ◌<◌, ◌≤◌, ◌+◌, true, false, cond, [], ◌∷◌, ◌++◌, ap, sym, subst, ◌∙◌, arith, length}
+use Rattle.std.proofs.Common.{◌≡◌, ℕ, ◌<◌, ◌≤◌, ◌+◌, true, false, cond, [], ◌∷◌, ◌++◌, Option, ap, sym, subst, ◌∙◌, arith, length}
 use Rattle.std.specs.Prelude.{not, ◌&&◌, ◌||◌, ◌==◌, fold}
+use Rattle.std.specs.BTreeSet as tree
 use Rattle.std.specs.List.{list_any}
 use Rattle.std.proofs.lemmas.Bool.{and_from}
 use Rattle.std.proofs.lemmas.List.{length-append}
@@ -24,6 +25,7 @@ use Rattle.dali_taint.specs.Tables.{has_number}
 use Rattle.dali_redo.specs.Following.{Redoes}
 use Rattle.dali_redo.specs.Redoing.{Redoing}
 use Rattle.dali_recovery.specs.Standing.{FollowsBy, Stands, StandsOn, assumed_by, passed, undamaged}
+use Rattle.dali_recovery.specs.declared.scan.Scan.{Scan}
 use Rattle.dali_recovery.specs.declared.recovery.Recovery.{Recovery}
 
 -- ---- whether a record may follow
@@ -98,27 +100,34 @@ passes_on s n w c r inside f = record {
     seen_is = ap (λ b. cond b [] (c.known.seen ++ r ∷ [])) inside
 
 -- ---- what an error leaves
-pub same_redo : (x : Recovery) (z : Redoing) → z ≡ x.redo → StandsOn x (record x { redo = z })
-same_redo x z e s n c st = record {
+-- it stands there with another redo, scan and audits, of which as much holds
+pub stands_with : (s : Sizes) (n : ℕ) (x : Recovery) (c : Going) (o : Option Scan) (z : Redoing) (a : tree.BTreeSet ℕ) → Stands s n x c → z.sizes ≡ s → Redoes c.image z (assumed_by o c.known.first) c.known → FollowsBy s o c.known.first c.known
+    → (c.known.seen ≡ [] → BeginsTables (undamaged c.known.first) c.known z.table) → ((b : ℕ) → has_number a b ≡ has c.known.audits b) → Stands s n (record x { scan = o; redo = z; audits = a }) c
+stands_with s n x c o z a st sizes redoes follows begins audits = record {
   geometry = st.geometry;
-  sizes = ap (λ (v : Redoing). v.sizes) e ∙ st.sizes;
+  sizes = sizes;
   image = st.image;
   positive = st.positive;
   behind = st.behind;
   fresh = st.fresh;
   counted = st.counted;
-  redoes = subst (λ v. Redoes c.image v (assumed_by x.scan c.known.first) c.known) (sym e) st.redoes;
-  follows = st.follows;
-  begins = λ h. subst (λ (v : Redoing). BeginsTables (undamaged c.known.first) c.known v.table) (sym e) (st.begins h);
+  redoes = redoes;
+  follows = follows;
+  begins = begins;
   first = st.first;
   clean = st.clean;
   failing = st.failing;
   number = st.number;
   next = st.next;
-  audits = st.audits;
+  audits = audits;
   failed = st.failed;
   fails = st.fails;
   restarted = st.restarted;
   rolled = st.rolled;
   deleted = st.deleted;
 }
+
+pub same_redo : (x : Recovery) (z : Redoing) → z ≡ x.redo → StandsOn x (record x { redo = z })
+same_redo x z e s n c st =
+    stands_with s n x c x.scan z x.audits st (ap (λ (v : Redoing). v.sizes) e ∙ st.sizes) (subst (λ v. Redoes c.image v (assumed_by x.scan c.known.first) c.known) (sym e) st.redoes) st.follows
+    (λ h. subst (λ (v : Redoing). BeginsTables (undamaged c.known.first) c.known v.table) (sym e) (st.begins h)) st.audits

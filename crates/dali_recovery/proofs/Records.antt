@@ -30,7 +30,7 @@ use Rattle.dali_recovery.specs.declared.error.RecoveryError.{RecoveryError}
 use Rattle.dali_recovery.specs.declared.error.RecoveryError.TheVariants.{Misfit, Unscanned, OutOfMemory}
 use Rattle.dali_recovery.specs.declared.scan.Scan.{Scan}
 use Rattle.dali_recovery.specs.declared.recovery.Recovery.{Recovery}
-use Rattle.dali_recovery.proofs.Passing.{IsNearly, may_not, may_not_failed, may_sound, passes_on, same_redo}
+use Rattle.dali_recovery.proofs.Passing.{IsNearly, may_not, may_not_failed, may_sound, passes_on, same_redo, stands_with}
 
 -- ---- records of a transaction
 pub record IsQuiet (r : Record) : Type 0 where
@@ -212,29 +212,7 @@ takes_begin x y a sound more is s n c st room =
 pub wants_begin : (x : Recovery) (a : tree.BTreeSet ℕ) → x.failed ≡ false → ((b : ℕ) → has_number a b ≡ has_number x.audits b) → Fails x (record x { audits = a }) AuditBegin OutOfMemory
 wants_begin x a sound same = (
   λ e s n c st. may_sound s n c.known AuditBegin (sym st.failed ∙ sound) refl,
-  λ none s n c st. record {
-    geometry = st.geometry;
-    sizes = st.sizes;
-    image = st.image;
-    positive = st.positive;
-    behind = st.behind;
-    counted = st.counted;
-    fresh = st.fresh;
-    redoes = st.redoes;
-    follows = st.follows;
-    begins = st.begins;
-    first = st.first;
-    clean = st.clean;
-    failing = st.failing;
-    number = st.number;
-    next = st.next;
-    audits = λ b. same b ∙ st.audits b;
-    failed = st.failed;
-    fails = st.fails;
-    restarted = st.restarted;
-    rolled = st.rolled;
-    deleted = st.deleted;
-  },
+  λ none s n c st. stands_with s n x c x.scan x.redo a st st.sizes st.redoes st.follows st.begins (λ b. same b ∙ st.audits b),
 )
 
 -- whether an audit with this begin may end

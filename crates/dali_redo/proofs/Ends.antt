@@ -15,6 +15,7 @@ use Rattle.dali_record.specs.Epochs.{separates}
 use Rattle.dali_record.specs.Settled.{redo_all}
 use Rattle.dali_history.specs.Recovered.{roll_back, freed}
 use Rattle.dali_history.proofs.Members.{fold_within, has-filter, has-filter_from}
+use Rattle.dali_history.proofs.Rising.{up_from, up_filter, keys_up, has_keys, same_up}
 use Rattle.dali_resume.specs.Laws.{undos_in}
 use Rattle.dali_resume.specs.Resumed.{Scan, begun_by, committed_by, losers_by, rolled_by, recover_by, is_left_out}
 use Rattle.dali_resume.specs.Tests.{Known, Status, Idle, Running, Waiting, is_running, known_next, may_follow, test_next, tests}
@@ -25,7 +26,6 @@ use Rattle.dali_redo.specs.Redoing.{Redoing, status_at, performed}
 use Rattle.dali_redo.specs.Steps.{RollsBack}
 use Rattle.dali_redo.specs.Following.{is_ended, FollowsScan, Redoes}
 use Rattle.dali_redo.specs.Laws.{IsFirst, Recovers, TellsRolled, OnePassRecovers, Judges, RunsBy, AppliesAll, ComesTo, OnePassComesTo}
-use Rattle.dali_redo.proofs.Rising.{up_from, up_filter, keys_up, has_keys, same_up}
 use Rattle.dali_redo.proofs.Statuses.{works_some}
 use Rattle.dali_redo.proofs.Follows.{performed_plain, applies_on, skips_on}
 use Rattle.dali_redo.proofs.Starts.{starts_redo}

@@ -15,13 +15,13 @@ use Rattle.dali_record.specs.declared.operations.Pending.{Pending}
 use Rattle.dali_record.specs.Damage.{has}
 use Rattle.dali_history.specs.Recovered.{roll_back, undo_into}
 use Rattle.dali_history.proofs.Members.{fold_within}
+use Rattle.dali_history.proofs.Rising.{Up, up_from, above, not_below}
 use Rattle.dali_resume.specs.Laws.{undos_in}
 use Rattle.dali_resume.specs.Tests.{Status, Idle}
 use Rattle.dali_system.proofs.Tables.{ended}
 use Rattle.dali_redo.specs.Redoing.{AreUndos, status_at, either, performed_in}
 use Rattle.dali_redo.specs.Steps.{Covers, rolled, Performs}
 use Rattle.dali_redo.specs.Tables.{IsLeast}
-use Rattle.dali_redo.proofs.Rising.{Up, up_from, above, not_below}
 use Rattle.dali_redo.proofs.Statuses.{status_of, put_status}
 
 abbrev pub rolls : (ℕ → List Pending) → List (List ℕ) → List ℕ → List (List ℕ)
@@ -74,8 +74,11 @@ first_taken us vs t low gone (x ∷ xs) up covers image = ⊎_elim (before (λ h
             differ g f = let yes : (t == x) ≡ true = eq-eqb t x g in cc
 
 -- ---- what is performed, by rows
-abbrev by_rows : Option (Row Pending) → Status → List Pending
-by_rows o z = either (is_some (option_map (λ row. row.state) o)) (option_map_or (λ row. row.undos) o []) (undos_in z)
+abbrev pub left_row : Option (Row Pending) → Bool
+left_row o = is_some (option_map (λ row. row.state) o)
+
+abbrev pub by_rows : Option (Row Pending) → Status → List Pending
+by_rows o z = either (left_row o) (option_map_or (λ row. row.undos) o []) (undos_in z)
 
 pub performed_gone : (left table : Table Pending) (t u : ℕ) → performed_in (remove left t) (remove table t) u ≡ cond (t == u) [] (performed_in left table u)
 performed_gone left table t u =

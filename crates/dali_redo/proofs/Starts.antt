@@ -1,11 +1,11 @@
 -- A redo before an epoch, and behind a Restarted.
-use Rattle.std.proofs.Common.{◌≡◌, ℕ, ◌≤◌, Bool, true, false, cond, List, [], ◌∷◌, Option, Some, None, refl, ap, sym, subst, ◌∙◌, ⊎_elim, arith}
-use Rattle.std.specs.Prelude.{◌&&◌, ◌||◌, ◌==◌, map, is_some}
+use Rattle.std.proofs.Common.{◌≡◌, ℕ, ◌≤◌, Bool, true, false, cond, List, [], ◌∷◌, Option, Some, None, refl, ap, sym, subst, ◌∙◌, arith}
+use Rattle.std.specs.Prelude.{◌&&◌, ◌||◌, ◌==◌, is_some}
 use Rattle.std.specs.List.Sorted.{IsStrictlyIncreasing}
 use Rattle.std.specs.Option.{option_map, option_map_or}
 use Rattle.std.specs.Ordering.{nat_cmp}
 use Rattle.std.specs.FinMap.{empty, get, get-empty}
-use Rattle.std.proofs.lemmas.Bool.{or_cases, or_left, or_right, or_parts, both_ways, false_from_ne_true, and_parts, eqb-true}
+use Rattle.std.proofs.lemmas.Bool.{both_ways, false_from_ne_true, eqb-true}
 use Rattle.std.proofs.lemmas.List.{append-nil}
 use mathlib.Core.Bool.{or-false}
 use Rattle.dali_att.specs.declared.state.State.{State}
@@ -16,25 +16,19 @@ use Rattle.dali_record.specs.declared.records.Record.TheVariants.{Restarted}
 use Rattle.dali_record.specs.Damage.{Damage, has}
 use Rattle.dali_record.specs.Files.{Row}
 use Rattle.dali_record.specs.Log.{ended}
+use Rattle.dali_history.proofs.Rising.{Up, up_from, not_below}
 use Rattle.dali_resume.specs.Laws.{undos_in}
 use Rattle.dali_resume.specs.Resumed.{scan, scan_start, row_undos, row_committed, begun_by, committed_by}
 use Rattle.dali_resume.specs.Tests.{Known, Status, Idle, Running, Waiting, is_running, is_waiting, known_next, status_in}
 use Rattle.dali_taint.specs.Following.{is_begun, is_committed, IsOrderly, Begins}
+use Rattle.dali_taint.proofs.Starts.{txns, committed_there, no_row}
 use Rattle.dali_redo.specs.Redoing.{Redoing, Knows, status_by, status_at, is_left}
 use Rattle.dali_redo.specs.Following.{is_ended, IsSettled, FollowsScan, Redoes}
 use Rattle.dali_redo.specs.Laws.{StartsRedo, EndsEpoch}
-use Rattle.dali_redo.proofs.Rising.{Up, up_from, not_below}
 use Rattle.dali_redo.proofs.Statuses.{status_of, idle_behind}
-
-abbrev txns : List Row → List ℕ
-txns rows = map (λ w. w.txn) rows
 
 abbrev chosen : Bool → Bool → List Pending → Status → Status
 chosen b c us z = cond b (cond c Waiting (Running us)) z
-
-committed_there : (rows : List Row) (t : ℕ) → row_committed rows t ≡ true → has (txns rows) t ≡ true
-committed_there [] t h = absurd (cc)
-committed_there (w ∷ ws) t h = ⊎_elim (λ e. or_left (w.txn == t) (has (txns ws) t) (and_parts (w.txn == t) w.is_committed e).0) (λ e. or_right (w.txn == t) (has (txns ws) t) (committed_there ws t e)) (or_cases ((w.txn == t) && w.is_committed) (row_committed ws t) h)
 
 -- one row of each transaction: what it says is its status
 record IsRow (rows : List Row) (t : ℕ) : Type 0 where
@@ -79,10 +73,6 @@ is_row (w ∷ ws) t up = by_test (w.txn == t) refl (is_row ws t up.1)
           runs = λ h f. ap is_running (status false g);
           undos = λ f. ap undos_in (status false g) ∙ sym (ap (λ b. cond b w.undos (row_undos ws t)) e);
         }
-
-no_row : (rows : List Row) (t : ℕ) → has (txns rows) t ≡ false → row_undos rows t ≡ []
-no_row [] t h = refl
-no_row (w ∷ ws) t h = let p = or_parts (w.txn == t) (has (txns ws) t) h in rw p.0 (no_row ws t p.1)
 
 -- ---- the start
 module _ (d : Damage) (k : Known) (m : Table Pending) (b : Begins d k m) where

@@ -1,5 +1,5 @@
 -- What the table tells the tests.
-use Rattle.std.proofs.Common.{◌≡◌, ℕ, suc, ◌^◌, ◌≤◌, ◌-◌, Bool, true, false, List, [], ◌∷◌, length, Option, Some, None, refl, ap, arith}
+use Rattle.std.proofs.Common.{◌≡◌, ℕ, ◌^◌, ◌≤◌, Bool, true, false, List, [], Option, Some, None, refl, ap, arith}
 use Rattle.std.specs.Prelude.{not, ◌&&◌, nat_le, nat_lt}
 use Rattle.std.proofs.lemmas.Bool.{and_parts, ltb-true}
 use Rattle.dali_geometry.specs.Sizes.{Sizes}
@@ -11,7 +11,7 @@ use Rattle.dali_record.specs.declared.operations.Pending.{Pending}
 use Rattle.dali_record.specs.declared.records.Record.{Record}
 use Rattle.dali_record.specs.declared.records.Record.TheVariants.{Format, Begin, Forward, Done, Commit, Ended, Solo, AuditBegin, AuditClean, AuditFail, Restarted, Back}
 use Rattle.dali_record.specs.Legal.{is_none_left, on_kind}
-use Rattle.dali_record.specs.Log.{last_of}
+use Rattle.dali_system.proofs.Tables.{last_same}
 use Rattle.dali_resume.specs.Laws.{undos_in}
 use Rattle.dali_resume.specs.Tests.{Known, Status, Idle, Running, Waiting, is_running, is_waiting, may_end, may_take_back, undoes_last, next_behind, draws_number}
 use Rattle.dali_redo.specs.Redoing.{Redoing, Knows, status_by, status_at, told_by, told, breaks}
@@ -51,11 +51,6 @@ pub takes_idle : (z : Status) (b : Block) → is_running z ≡ false → false �
 takes_idle Idle b h = refl
 takes_idle (Running us) b h = absurd (cc)
 takes_idle Waiting b h = refl
-
-last_same : (us : List Pending) → table_last us ≡ last_of us
-last_same [] = refl
-last_same (u ∷ []) = refl
-last_same (u ∷ v ∷ us) = let e : length (u ∷ v ∷ us) - 1 ≡ suc (length (v ∷ us) - 1) = omega arith in rw e (last_same (v ∷ us))
 
 pub takes_running : (o : Option State) (us : List Pending) (b : Block) → is_running (status_by o us) ≡ true → undoes_last b (table_last us) ≡ may_take_back (status_by o us) b
 takes_running None us b h = absurd (cc)

@@ -1,7 +1,7 @@
 -- What a call makes of the fields of a redo.
 use Rattle.std.proofs.Common.{◌≡◌, ℕ, Bool, true, false, cond, List, [], ◌∷◌, ◌++◌, length, map, fold, Option, Some, None, refl, ap, sym, subst, ◌∙◌}
 use Rattle.std.specs.Prelude.{not, ◌&&◌, ◌||◌, ◌==◌, is_some}
-use Rattle.std.specs.Option.{option_map, option_map_or}
+use Rattle.std.specs.Option.{option_map_or}
 use Rattle.std.specs.Ordering.{nat_cmp}
 use Rattle.std.specs.FinMap.{empty, get, get-empty}
 use Rattle.std.proofs.Math.ListN.{length-set}
@@ -29,14 +29,8 @@ use Rattle.dali_redo.specs.Redoing.{Redoing, Knows, AreUndos, status_by, status_
 use Rattle.dali_redo.specs.Steps.{Advances, Applies, Skips}
 use Rattle.dali_redo.specs.Tables.{row_held, Holds}
 use Rattle.dali_redo.specs.Laws.{SpelledUndo}
-use Rattle.dali_redo.proofs.Rolls.{none_performed}
+use Rattle.dali_redo.proofs.Rolls.{left_row, by_rows, none_performed}
 use Rattle.dali_redo.proofs.Statuses.{still, idle_behind}
-
-abbrev left_row : Option (Row Pending) → Bool
-left_row o = is_some (option_map (λ row. row.state) o)
-
-abbrev by_rows : Option (Row Pending) → Status → List Pending
-by_rows o z = either (left_row o) (option_map_or (λ row. row.undos) o []) (undos_in z)
 
 no_rows : (t : ℕ) → get (empty {X = Row Pending} {R = nat_cmp}) t ≡ None
 no_rows t = get-empty {X = Row Pending} nat_cmp t

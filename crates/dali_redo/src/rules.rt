@@ -2,14 +2,14 @@
 ghost use Rattle.std.specs.Prelude.{◌≡◌, ◌^◌, ◌&&◌, nat_lt, nat_le, List, option_copied};
 ghost use Rattle.dali_record.specs.declared.operations.Pending.{Pending as PendingOf};
 ghost use Rattle.dali_record.specs.Operations as operations;
-ghost use Rattle.dali_record.specs.Legal.{same_op as are_same, is_of as is_block_of, on_kind as is_on_kind};
+ghost use Rattle.dali_record.specs.Legal.{same_op as are_same, is_of as is_block_of};
 ghost use Rattle.dali_resume.specs.Laws.{undos_in};
 ghost use Rattle.dali_resume.specs.Tests as tests;
 ghost use Rattle.dali_redo.specs.Redoing.{status_by, status_at, told_by, breaks as is_broken};
 
 use dali_att::{Att, State};
 use dali_geometry::Geometry;
-use dali_record::{Block, Op, Pending, Record, Undo};
+use dali_record::{Block, Op, Pending, Record, Undo, on_kind};
 
 // No transaction has a number as great as this.
 const END_OF_NUMBERS: u64 = 1 << 40;
@@ -121,20 +121,6 @@ fn may_take_back(table: &Att<Pending>, txn: u64, block: &Block) -> bool
     ensures { result ≡ tests.may_take_back (status_at table.now txn) block.now }
 {
     is_active(table, txn) && takes_last_back(block, table.last(txn))
-}
-
-// Whether the operation names a region of its kind.
-fn on_kind(geometry: Geometry, region: u32, op: &Op) -> bool
-    ensures { result ≡ is_on_kind geometry region op.now }
-{
-    match op {
-        Op::Look => region < geometry.index(),
-        Op::Add { .. } => region < geometry.index(),
-        Op::KillEntry { .. } => region < geometry.index(),
-        Op::FreeEntry { .. } => region < geometry.index(),
-        Op::ReviveEntry { .. } => region < geometry.index(),
-        _ => geometry.index() <= region && region < geometry.regions(),
-    }
 }
 
 // Whether a transaction may begin with this number.

@@ -1,21 +1,20 @@
 -- What a hold has written and read, and that each call keeps what is true of every region.
 use Rattle.std.proofs.Common.{◌≡◌, ◌≢◌, ℕ, zero, suc, ◌+◌, ◌-◌, ◌*◌, ◌<◌, ◌≤◌, ◌^◌, Bool, true, false, not, List, length, cond, refl, ap, sym, subst, ◌∙◌, ◌⊎◌, ⊎_elim, arith, get_or, set, max, Option, Some, None}
-use Rattle.std.specs.Prelude.{◌==◌, bit_and, bit_or, bit_xor, IsBitSet, IsSomeAnd, IfSome, All, slice_index, slice_set}
+use Rattle.std.specs.Prelude.{◌==◌, bit_and, bit_or, bit_xor, IsBitSet, IsSomeAnd, IfSome, slice_index, slice_set}
 use Rattle.std.specs.Option.{option_map_or}
 use Rattle.std.specs.Int.Bits.{xor_assoc, xor_self, xor_zero_r}
 use Rattle.std.proofs.lemmas.Nat.{and_le_l, pow_pos, xor_lt}
 use Rattle.std.proofs.Math.Nat.{pow-le-pow_right, zero-mul}
 use Rattle.std.specs.Int.{bit_at, w64}
 use Rattle.std.proofs.lemmas.Nat.Bits.{bit_at_or, bit_at_and, bit_at_not, bit_at-lt, bit_at-zero, bit_at-pow_same, bit_at-pow_other, and_pow}
-use Rattle.std.proofs.lemmas.List.Elements.{All-set, All-get_or, All-from_get_or}
-use Rattle.std.proofs.lemmas.List.{length-set, ext_get_or, get_or-set_same, get_or-set_other}
+use Rattle.std.proofs.lemmas.List.{ext_get_or, get_or-set_same, get_or-set_other}
 use Rattle.std.proofs.lemmas.Bool.Decides.{Decides-eqb, leb_tells}
 use Rattle.std.proofs.lemmas.Bool.{cases_eq}
-use Rattle.dali_lists.proofs.Lists.{past_is_zero}
-use Rattle.dali_words.specs.Words.{parity_of, xor_under}
+use Rattle.dali_words.specs.Words.{parity_of, xor_under, AreWords}
 use Rattle.dali_region.specs.declared.Hold.{Hold}
 use Rattle.dali_region.specs.State.{RegionState, IsProtected, HasRead, IsUnwritten, latched, is_in, has_written, is_written, unread, damaged, poked, loaded, taken_back, counted, touched, updated, writing, map_hold}
 use Rattle.dali_words.proofs.Lowest.{xor_under-nothing}
+use Rattle.dali_words.proofs.Widths.{word_fits, are_words_with}
 use Rattle.dali_region.proofs.Words.{parity_of-set, twice, damage, xor_under-apart}
 
 -- ---- bits
@@ -92,17 +91,15 @@ outside_nothing ws bs e same = ext_get_or 0 ws bs e (λ i _. same i refl)
 
 -- ---- each call keeps what is true of every region
 pub unwritten-same : (g : RegionState) (h : Hold) → IsProtected g → g.hold ≡ Some h → h.write ≡ 0 → g.words ≡ g.back
-unwritten-same g h p e z = outside_nothing g.words g.back (p.size ∙ sym p.back_size) agree
+unwritten-same g h p e z = outside_nothing g.words g.back (p.words.0 ∙ sym p.back.0) agree
   where
     agree : AgreeOutside 0 g.words g.back
     agree i out = p.rest i (ap (λ o. option_map_or (λ k. is_in k.write i) o false) e ∙ ap (λ m. is_in m i) z ∙ out)
 
 pub updated_keeps : (g : RegionState) (h : Hold) (i v b : ℕ) → IsProtected g → g.hold ≡ Some h → i < 64 → b ≡ 2 ^ i → v < 2 ^ 64 → bit_at h.read i ≡ 1 → IsProtected (record g { words = slice_set g.words i v; codeword = bit_xor g.codeword (bit_xor (slice_index g.words i) v); hold = Some (record h { write = bit_or h.write b }) })
 updated_keeps g h i v b p e lt is small has = record {
-  size = length-set g.words i v ∙ p.size;
-  back_size = p.back_size;
-  fits = All-set (λ w. w < 2 ^ 64) g.words i v small p.fits;
-  back_fits = p.back_fits;
+  words = are_words_with g.words i v small p.words;
+  back = p.back;
   codeword = law;
   rest = λ k out. outside-set h.write i v g.words g.back agree k (ap (λ m. is_in (bit_or h.write m) k) (sym is) ∙ out);
   within = p.within;
@@ -124,34 +121,28 @@ updated_keeps g h i v b p e lt is small has = record {
 
     law : bit_xor (bit_xor g.codeword (bit_xor (slice_index g.words i) v)) (parity_of (slice_set g.words i v)) ≡ g.stray
     law =
-        let within : i < length g.words = omega (arith, p.size, lt) in
+        let within : i < length g.words = omega (arith, p.words.0, lt) in
         ap (bit_xor (bit_xor g.codeword (bit_xor (slice_index g.words i) v))) (parity_of-set g.words i v within) ∙ twice g.codeword (parity_of g.words) (bit_xor (slice_index g.words i) v) ∙ p.codeword
-
--- the words in a region fit, whichever it is
-word_fits : (ws : List ℕ) (i : ℕ) → All (λ w. w < 2 ^ 64) ws → get_or ws i 0 < 2 ^ 64
-word_fits ws i all = ⊎_elim (λ t. subst (λ n. n < 2 ^ 64) (sym (past_is_zero ws i t.1)) (omega arith)) (λ t. All-get_or (λ w. w < 2 ^ 64) ws i 0 t.1 all) (leb_tells (length ws) i)
 
 pub poked_keeps : (g : RegionState) (i m : ℕ) → IsProtected g → i < 64 → m < 2 ^ 64 → IsProtected (poked i m g)
 poked_keeps g i m p lt small = by_test (is_written g i) refl
   where
     within : i < length g.words
-    within = omega (arith, p.size, lt)
+    within = omega (arith, p.words.0, lt)
 
     within_back : i < length g.back
-    within_back = omega (arith, p.back_size, lt)
+    within_back = omega (arith, p.back.0, lt)
 
-    fits : (ws : List ℕ) → All (λ w. w < 2 ^ 64) ws → All (λ w. w < 2 ^ 64) (damaged i m ws)
-    fits ws all = All-set (λ w. w < 2 ^ 64) ws i (bit_xor (get_or ws i 0) m) (xor_lt 64 (get_or ws i 0) m (word_fits ws i all) small) all
+    fits : (ws : List ℕ) → AreWords ws → AreWords (damaged i m ws)
+    fits ws are = are_words_with ws i (bit_xor (get_or ws i 0) m) (xor_lt 64 (get_or ws i 0) m (word_fits ws i are) small) are
 
     law : bit_xor g.codeword (parity_of (damaged i m g.words)) ≡ bit_xor g.stray m
     law = ap (bit_xor g.codeword) (parity_of-set g.words i _ within) ∙ damage g.codeword (parity_of g.words) (slice_index g.words i) m ∙ ap (λ n. bit_xor n m) p.codeword
 
     by_test : (c : Bool) → is_written g i ≡ c → IsProtected (record g { words = damaged i m g.words; back = cond c g.back (damaged i m g.back); stray = bit_xor g.stray m; poked = true })
     by_test true e = record {
-      size = length-set g.words i _ ∙ p.size;
-      back_size = p.back_size;
-      fits = fits g.words p.fits;
-      back_fits = p.back_fits;
+      words = fits g.words p.words;
+      back = p.back;
       codeword = law;
       rest = but-set (is_written g) i _ g.words g.back e p.rest;
       within = p.within;
@@ -162,10 +153,8 @@ poked_keeps g i m p lt small = by_test (is_written g i) refl
       none_missed = λ h. absurd (cc);
     }
     by_test false e = record {
-      size = length-set g.words i _ ∙ p.size;
-      back_size = length-set g.back i _ ∙ p.back_size;
-      fits = fits g.words p.fits;
-      back_fits = fits g.back p.back_fits;
+      words = fits g.words p.words;
+      back = fits g.back p.back;
       codeword = law;
       rest = but-both (is_written g) i m g.words g.back within within_back e p.rest;
       within = p.within;
@@ -188,10 +177,8 @@ unread-split r m i fits lt = omega (arith, bit_at_or r m i, bit_at_and m (2 ^ 64
 
 pub reading_keeps : (g : RegionState) (h : Hold) (m x r : ℕ) → IsProtected g → g.hold ≡ Some h → h.write ≡ 0 → h.read < 2 ^ 64 → r ≡ bit_or h.read m → x ≡ bit_xor h.xor (xor_under (unread m h.read) g.words) → IsProtected (record g { hold = Some (record h { read = r; xor = x }) })
 reading_keeps g h m x r p e z fits is_r is_x = record {
-  size = p.size;
-  back_size = p.back_size;
-  fits = p.fits;
-  back_fits = p.back_fits;
+  words = p.words;
+  back = p.back;
   writes = λ k w. absurd (omega (arith, ap (λ n. bit_at n k) (sym z), bit_at-zero k, w));
   codeword = p.codeword;
   rest = λ k out. p.rest k (ap (λ o. has_written o k) e ∙ out);
@@ -202,16 +189,14 @@ reading_keeps g h m x r p e z fits is_r is_x = record {
   reads = λ un.
       let was : h.xor ≡ xor_under h.read g.back = subst (λ (o : Option Hold). IfSome o (λ k. k.xor ≡ xor_under k.read g.back)) e (p.reads un) in
       let same : g.words ≡ g.back = unwritten-same g h p e z in
-      let split : xor_under (bit_or h.read m) g.back ≡ bit_xor (xor_under h.read g.back) (xor_under (unread m h.read) g.back) = xor_under-apart h.read (unread m h.read) (bit_or h.read m) g.back (λ i lt. unread-split h.read m i fits (omega (arith, lt, p.back_size))) in
+      let split : xor_under (bit_or h.read m) g.back ≡ bit_xor (xor_under h.read g.back) (xor_under (unread m h.read) g.back) = xor_under-apart h.read (unread m h.read) (bit_or h.read m) g.back (λ i lt. unread-split h.read m i fits (omega (arith, lt, p.back.0))) in
       is_x ∙ ap (λ n. bit_xor n (xor_under (unread m h.read) g.words)) was ∙ ap (λ ws. bit_xor (xor_under h.read g.back) (xor_under (unread m h.read) ws)) same ∙ sym split ∙ ap (λ n. xor_under n g.back) (sym is_r);
 }
 
 pub latched_keeps : (g : RegionState) (t : ℕ) → IsProtected g → g.hold ≡ None → IsProtected (latched t g)
 latched_keeps g t p e = record {
-  size = p.size;
-  back_size = p.back_size;
-  fits = p.fits;
-  back_fits = p.back_fits;
+  words = p.words;
+  back = p.back;
   writes = λ k w. absurd (omega (arith, bit_at-zero k, w));
   codeword = p.codeword;
   rest = λ k out. p.rest k (ap (λ o. has_written o k) e);
@@ -231,7 +216,7 @@ unwritten_hold g g' h same e unwritten =
 
 -- without a hold the words are as they would be without it
 pub unheld-same : (g : RegionState) → IsProtected g → g.hold ≡ None → g.words ≡ g.back
-unheld-same g p e = outside_nothing g.words g.back (p.size ∙ sym p.back_size) (λ i out. p.rest i (ap (λ o. has_written o i) e))
+unheld-same g p e = outside_nothing g.words g.back (p.words.0 ∙ sym p.back.0) (λ i out. p.rest i (ap (λ o. has_written o i) e))
 
 -- ---- what was computed anew is the same
 pub with_back : (g : RegionState) (bs : List ℕ) → bs ≡ g.back → IsProtected g → IsProtected (record g { back = bs })
@@ -257,10 +242,8 @@ same_stray g c b a p e f = f ∙ ap (λ n. bit_xor g.codeword (bit_xor n a)) e �
 
 pub taken_back_keeps : (g : RegionState) → IsProtected g → IsProtected (taken_back g)
 taken_back_keeps g p = record {
-  size = p.back_size;
-  back_size = p.back_size;
-  fits = p.back_fits;
-  back_fits = p.back_fits;
+  words = p.back;
+  back = p.back;
   codeword = xor_assoc g.stray (parity_of g.back) (parity_of g.back) ∙ ap (bit_xor g.stray) (xor_self (parity_of g.back)) ∙ xor_zero_r g.stray;
   rest = λ i out. refl;
   within = p.within;
@@ -282,10 +265,8 @@ touched_keeps g p small = by_poked g.poked refl
 
     by_poked : (b : Bool) → g.poked ≡ b → IsProtected (touched g)
     by_poked true e = record {
-      size = p.size;
-      back_size = p.size;
-      fits = p.fits;
-      back_fits = p.fits;
+      words = p.words;
+      back = p.words;
       codeword = p.codeword;
       rest = λ i out. refl;
       within = rw e (higher g.sound g.touches p.within small);
@@ -296,10 +277,8 @@ touched_keeps g p small = by_poked g.poked refl
       none_missed = λ h. absurd (cc);
     }
     by_poked false e = record {
-      size = p.size;
-      back_size = p.size;
-      fits = p.fits;
-      back_fits = p.fits;
+      words = p.words;
+      back = p.words;
       codeword = p.codeword;
       rest = λ i out. refl;
       within = rw e (both g.sound g.touches p.within);
@@ -326,12 +305,10 @@ taken_back_is g g' c ws bs same e f h = rw (e, f, h) (ap taken_back same)
 pub to_same : (g g' : RegionState) → g ≡ g' → IsProtected g' → IsProtected g
 to_same g g' e p = subst (λ (s : RegionState). IsProtected s) (sym e) p
 
-pub loaded_keeps : (ws : List ℕ) → length ws ≡ 64 → ((i : ℕ) → get_or ws i 0 < 2 ^ 64) → IsProtected (loaded ws)
-loaded_keeps ws long small = record {
-  size = long;
-  back_size = long;
-  fits = All-from_get_or (λ w. w < 2 ^ 64) ws 0 (λ i _. small i);
-  back_fits = All-from_get_or (λ w. w < 2 ^ 64) ws 0 (λ i _. small i);
+pub loaded_keeps : (ws : List ℕ) → AreWords ws → IsProtected (loaded ws)
+loaded_keeps ws are = record {
+  words = are;
+  back = are;
   codeword = xor_self (parity_of ws);
   rest = λ i out. refl;
   within = omega arith;

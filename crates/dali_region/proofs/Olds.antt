@@ -1,11 +1,10 @@
 -- Words that are restored: those in a set as they were, all others as they stand.
 use Rattle.std.proofs.Common.{◌≡◌, ◌≢◌, ℕ, ◌+◌, ◌<◌, ◌≤◌, ◌^◌, Bool, true, false, List, [], ◌∷◌, length, cond, refl, ap, sym, subst, ◌∙◌, ◌⊎◌, inl, inr, ⊎_elim, arith, get_or, set, Option, Some, None}
-use Rattle.std.specs.Prelude.{All, not, bit_and, bit_or, bit_xor}
+use Rattle.std.specs.Prelude.{not, bit_and, bit_or, bit_xor}
 use Rattle.std.proofs.lemmas.Bool.Decides.{Decides-eqb, eqb_tells}
 use Rattle.std.specs.Int.{bit_at}
 use Rattle.std.proofs.lemmas.Nat.Bits.{bit_at_or, bit_at-lt, bit_at-zero, bit_at-pow_same, bit_at-pow_other}
 use Rattle.std.proofs.lemmas.List.{length-set, ext_get_or, get_or-set_same, get_or-set_other}
-use Rattle.std.proofs.lemmas.List.Elements.{All-from_get_or, All-get_or}
 use Rattle.std.proofs.lemmas.Bool.{cases_Bool, cases_eq}
 use Rattle.dali_words.specs.Words.{under, write_under}
 use Rattle.dali_words.proofs.Masks.{length-write_under, write_under_other}
@@ -112,14 +111,6 @@ restored_damaged m i x olds ws e lt = by_test (cases_Bool (is_in m i))
                 ap (λ j. get_or (damaged i x (restored m olds ws)) j 0) q ∙ get_or-set_same (restored m olds ws) i _ 0 (omega (arith, lt, length-restored m olds ws))
                 ∙ ap (λ n. bit_xor n x) (restored_out m olds ws i h) ∙ sym (get_or-set_same ws i _ 0 lt) ∙ ap (λ j. get_or (damaged i x ws) j 0) (sym q)
             go (inr q) = get_or-set_other (restored m olds ws) i k _ 0 q ∙ restored_out m olds ws k a ∙ sym (get_or-set_other ws i k _ 0 q)
-
--- ---- each word fits
-pub all_restored : (P : ℕ → Type 0) (m : ℕ) (olds ws : List ℕ) → length olds ≡ length ws → All P olds → All P ws → All P (restored m olds ws)
-all_restored P m olds ws e a b = All-from_get_or P (restored m olds ws) 0 (λ i lt. each i (omega (arith, lt, length-restored m olds ws)) (cases_Bool (is_in m i)))
-  where
-    each : (i : ℕ) → i < length ws → (is_in m i ≡ true) ⊎ (is_in m i ≡ false) → P (get_or (restored m olds ws) i 0)
-    each i lt (inl h) = subst P (sym (restored_in m olds ws i e h)) (All-get_or P olds i 0 (omega (arith, lt, e)) a)
-    each i lt (inr h) = subst P (sym (restored_out m olds ws i h)) (All-get_or P ws i 0 lt b)
 
 -- ---- what a hold has written
 pub written_is : (o : Option Hold) (i : ℕ) → is_in (written o) i ≡ has_written o i

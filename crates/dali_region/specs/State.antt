@@ -20,10 +20,10 @@
 --     poked i m g                  with a word damaged
 --     checked g                    after a check: a check that answers 0 misses the pokes that came
 --     dead g                       with its hold dead
-use Rattle.std.specs.Prelude.{◌≡◌, ℕ, ◌+◌, ◌-◌, ◌^◌, ◌<◌, ◌≤◌, Bool, true, false, not, ◌&&◌, ◌||◌, if◌then◌else◌, ◌==◌, List, Option, Some, None, IfSome, IsSomeAnd, IsBitSet, All, length, slice_index, slice_set, bit_and, bit_or, bit_xor, min}
+use Rattle.std.specs.Prelude.{◌≡◌, ℕ, ◌+◌, ◌-◌, ◌^◌, ◌≤◌, Bool, true, false, not, ◌&&◌, ◌||◌, if◌then◌else◌, ◌==◌, List, Option, Some, None, IfSome, IsSomeAnd, IsBitSet, slice_index, slice_set, bit_and, bit_or, bit_xor, min}
 use Rattle.std.specs.Option.{option_map_or}
 use Rattle.std.specs.Int.{bit_at}
-use Rattle.dali_words.specs.Words.{parity_of, xor_under, under, write_under}
+use Rattle.dali_words.specs.Words.{parity_of, xor_under, under, write_under, AreWords}
 use Rattle.dali_region.specs.declared.Hold.{Hold}
 
 pub record RegionState : Type 0 where
@@ -78,10 +78,8 @@ abbrev pub written : Option Hold → ℕ
 written o = option_map_or (λ h. h.write) o 0
 
 pub record IsProtected (g : RegionState) : Type 0 where
-  pub size : length g.words ≡ 64
-  pub back_size : length g.back ≡ 64
-  pub fits : All (λ w. w < 2 ^ 64) g.words
-  pub back_fits : All (λ w. w < 2 ^ 64) g.back
+  pub words : AreWords g.words
+  pub back : AreWords g.back
   -- the codeword tells exactly the masks of the pokes
   pub codeword : bit_xor g.codeword (parity_of g.words) ≡ g.stray
   -- a word that the hold hasn't written is as it would be without the hold

@@ -139,7 +139,8 @@ fn damage(words: &mut [u64; 64], word: u8, mask: u64)
 impl Region {
     /// A region with these words: no hold, both flags set, no operation done, its codeword the parity of the words.
     pub fn load(words: [u64; 64]) -> Self
-        ensures { result ≡ loaded words }
+        ensures value { result ≡ loaded words }
+        ensures protected { IsProtected result }
     {
         Region {
             words,
@@ -206,7 +207,8 @@ impl Region {
 
     /// How many operations were done since the load. The count stands still at its type's end.
     pub fn touches(&self) -> u64
-        ensures { result ≡ self.now.touches }
+        ensures value { result ≡ self.now.touches }
+        ensures protected { IsProtected self.now }
     {
         self.touches
     }
@@ -215,7 +217,9 @@ impl Region {
     /// The hold is to be live and to have written nothing.
     pub fn note_reads(&mut self, mask: u64)
         requires { IsUnwritten self.old }
-        ensures { self.new ≡ with_reads mask self.old }
+        ensures after { self.new ≡ with_reads mask self.old }
+        ensures was_protected { IsProtected self.old }
+        ensures protected { IsProtected self.new }
     {
         let hold = self.hold.unwrap();
         let unread = mask & !hold.read;
@@ -229,7 +233,9 @@ impl Region {
     /// Writes a word of an open operation. The hold is to be live and to have read the word.
     pub fn update(&mut self, word: u8, value: u64)
         requires { HasRead self.old word }
-        ensures { self.new ≡ updated word value self.old }
+        ensures after { self.new ≡ updated word value self.old }
+        ensures was_protected { IsProtected self.old }
+        ensures protected { IsProtected self.new }
     {
         let hold = self.hold.unwrap();
         let at = word as usize;
@@ -280,7 +286,9 @@ impl Region {
     pub fn poke(&mut self, word: u8, mask: u64)
         requires in_range { word < 64 }
         requires changes { mask ≢ 0 }
-        ensures { self.new ≡ poked word mask self.old }
+        ensures after { self.new ≡ poked word mask self.old }
+        ensures was_protected { IsProtected self.old }
+        ensures protected { IsProtected self.new }
     {
         damage(&mut self.words, word, mask);
         self.mirror.poke(mask);
@@ -302,13 +310,16 @@ impl Region {
     pub fn codeword(&mut self) -> u64
         ensures answer { result ≡ self.old.codeword }
         ensures same { self.new ≡ self.old }
+        ensures was_protected { IsProtected self.old }
+        ensures protected { IsProtected self.new }
     {
         self.codeword
     }
 
     /// Copies the words with the updates of an open operation taken back.
     pub fn copy_settled(&self, into: &mut [u64; 64])
-        ensures { into.new ≡ self.now.back }
+        ensures copied { into.new ≡ self.now.back }
+        ensures protected { IsProtected self.now }
     {
         *into = self.words;
         restore(into, &self.olds, written(&self.hold));
@@ -317,7 +328,9 @@ impl Region {
     /// The client that has the latch died. The hold is to be live.
     pub fn mark_dead(&mut self)
         requires { IsLive self.old }
-        ensures { self.new ≡ dead self.old }
+        ensures after { self.new ≡ dead self.old }
+        ensures was_protected { IsProtected self.old }
+        ensures protected { IsProtected self.new }
     {
         let hold = self.hold.unwrap();
         self.hold = Some(Hold { dead: true, ..hold });
@@ -325,7 +338,8 @@ impl Region {
 
     /// Whether the region was loaded or written since this image's flag was cleared.
     pub fn dirty(&self, side: Side) -> bool
-        ensures { result ≡ is_dirty self.now side }
+        ensures value { result ≡ is_dirty self.now side }
+        ensures protected { IsProtected self.now }
     {
         match side {
             Side::A => self.dirty_a,
@@ -335,7 +349,9 @@ impl Region {
 
     /// Clears the flag of this image.
     pub fn clear_dirty(&mut self, side: Side)
-        ensures { self.new ≡ cleaned side self.old }
+        ensures after { self.new ≡ cleaned side self.old }
+        ensures was_protected { IsProtected self.old }
+        ensures protected { IsProtected self.new }
     {
         match side {
             Side::A => self.dirty_a = false,

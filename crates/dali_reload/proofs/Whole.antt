@@ -1,23 +1,20 @@
 -- A legal log, read from the place of an image that fitted a front of it.
-use Rattle.std.proofs.Common.{◌≡◌, ◌⊎◌, inl, inr, ℕ, ◌+◌, List, [], ◌∷◌, ◌++◌, None, refl, ap, sym, subst, ◌∙◌, arith, length, take, drop, append_assoc, length-append, length-drop, take-append-drop}
+use Rattle.std.proofs.Common.{◌≡◌, ◌⊎◌, inl, inr, ℕ, ◌+◌, List, [], ◌∷◌, ◌++◌, None, ap, sym, subst, ◌∙◌, arith, length, take, drop, append_assoc, length-append, length-drop, take-append-drop}
 use Rattle.std.specs.Prelude.{sum_by}
-use Rattle.std.specs.List.{AllByRecursion}
 use Rattle.std.proofs.lemmas.List.{drop-append-le}
 use Rattle.std.proofs.lemmas.List.Concat.{flat_map-append}
-use Rattle.std.proofs.lemmas.List.Sums.{sum_by-cons}
 use Rattle.dali_lists.proofs.Members.{all_left}
 use Rattle.dali_geometry.specs.Sizes.{Sizes}
 use Rattle.dali_record.specs.declared.records.Record.{Record}
 use Rattle.dali_record.specs.Epochs.{last_epoch}
 use Rattle.dali_record.specs.Files.{Files, batch_length}
 use Rattle.dali_record.specs.Legal.{sizes_of}
-use Rattle.dali_record.specs.Spelling.{record_length, spelling}
-use Rattle.dali_record.proofs.Lengths.{length-spelling}
+use Rattle.dali_record.specs.Spelling.{record_length}
 use Rattle.dali_history.specs.History.{RestartGives}
 use Rattle.dali_history.specs.Recovered.{base_of}
-use Rattle.dali_batch.specs.Batch.{batch, batches}
-use Rattle.dali_batch.specs.Log.{AreSpelled, LogOf, TailOf, bodies, body_bytes}
-use Rattle.dali_batch.proofs.Bytes.{length-batch}
+use Rattle.dali_batch.specs.Batch.{batches}
+use Rattle.dali_batch.specs.Log.{AreSpelled, LogOf, TailOf}
+use Rattle.dali_batch.proofs.Bytes.{batches_length}
 use Rattle.dali_batch.proofs.Fronts.{tail_from_place}
 use Rattle.dali_resume.specs.Again.{Outcome}
 use Rattle.dali_resume.specs.Batches.{misplaced, records_of, verdict_over}
@@ -31,20 +28,6 @@ use Rattle.dali_reload.specs.Laws.{IsSpelledOut, IsWholeLog, OneReading, ReadsHi
 use Rattle.dali_reload.specs.Reading.{FailsAt, IsBadBehind, IsReloaded}
 use Rattle.dali_reload.specs.declared.reading.Reloaded.{Reloaded}
 use Rattle.dali_reload.proofs.Tails.{has_batch, none_bad, one_tail}
-
--- ---- the bytes of batches
-body_length : (rs : List Record) → AreSpelled rs → length (body_bytes rs) ≡ sum_by record_length rs
-body_length [] all = refl
-body_length (r ∷ rs) all =
-    length-append (spelling r) (body_bytes rs)
-    ∙ (ap (λ n. n + length (body_bytes rs)) (length-spelling r all.0) ∙ (ap (λ n. record_length r + n) (body_length rs all.1) ∙ sym (sum_by-cons record_length r rs)))
-
-batches_length : (L : List (List Record)) → AllByRecursion AreSpelled L → length (batches (bodies L)) ≡ sum_by batch_length L
-batches_length [] all = refl
-batches_length (rs ∷ L) all =
-    let one : length (batch (body_bytes rs)) ≡ batch_length rs = omega (arith, length-batch (body_bytes rs), body_length rs all.0) in
-    length-append (batch (body_bytes rs)) (batches (bodies L))
-    ∙ (ap (λ n. n + length (batches (bodies L))) one ∙ (ap (λ n. batch_length rs + n) (batches_length L all.1) ∙ sym (sum_by-cons batch_length rs L)))
 
 -- ---- any log that is read to an end
 pub apart : (o : Outcome) (m : ℕ) → HandedOut o ≡ NamedMisfit m → ⊥

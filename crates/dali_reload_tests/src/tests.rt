@@ -7,6 +7,7 @@ use dali_geometry::Geometry;
 use dali_memstore::{Fuse, MemoryStore};
 use dali_recovery::{Damage, Recovery};
 use dali_reload::{BeforeRestart, Pass, ReloadError, Reloaded, read_scanned};
+use std::process::Abort;
 
 // A format of one index region and one heap region: the first batch, and its record has the number 0.
 const FIRST: [u8; 15] = [0xa5, 0, 0, 0, 10, 1, 1, 0, 0, 0, 1, 0, 0, 0, 1];
@@ -164,8 +165,25 @@ fn read(
     }
 }
 
+// What a pass comes to over the log of these batches, without so many of its last bytes, where this damage is known.
+fn read_batches(
+    rt: &HostRuntime,
+    batches: &[&[&[u8]]],
+    cut: usize,
+    known: &[(u64, u64, u32)],
+    passes: Option<u64>,
+) -> Option<Answer> {
+    let log = log_of(rt, batches, cut).ok()?;
+    read(rt, log, known, passes).ok()
+}
+
+// Checks what a pass came to.
+fn check(rt: &impl Abort, seen: Option<Answer>, wanted: Answer) {
+    assert_eq!(rt; seen, Some(wanted));
+}
+
 #[test]
-fn logs_are_read_to_their_end(rt: HostRuntime) -> Result<()> {
+fn logs_are_read_to_their_end(rt: HostRuntime) {
     let logs: [(&[&[&[u8]]], Told); 6] = [
         (&[], (0, 0, 1, 1, 15, 0, 0, None)),
         (
@@ -184,14 +202,13 @@ fn logs_are_read_to_their_end(rt: HostRuntime) -> Result<()> {
         (&[&[&RESTARTED]], (0, 0, 2, 1, 29, 1, 9, Some((15, 0)))),
     ];
     for (batches, told) in logs {
-        let log = log_of(&rt, batches, 0)?;
-        assert_eq!(rt; read(&rt, log, &[], None)?, Answer::Whole(told));
+        let seen = read_batches(&rt, batches, 0, &[], None);
+        check(&rt, seen, Answer::Whole(told));
     }
-    Ok(())
 }
 
 #[test]
-fn a_log_is_refused_at_its_first_bad_place(rt: HostRuntime) -> Result<()> {
+fn a_log_is_refused_at_its_first_bad_place(rt: HostRuntime) {
     let logs: [(&[&[&[u8]]], usize, u64); 9] = [
         // a restart's record in the midst of its batch
         (&[&[&BEGIN_1, &RESTARTED_1]], 0, 29),
@@ -208,34 +225,29 @@ fn a_log_is_refused_at_its_first_bad_place(rt: HostRuntime) -> Result<()> {
         (&[&[&COMMIT_1], &[&BEGIN_1]], 2, 20),
     ];
     for (batches, cut, at) in logs {
-        let log = log_of(&rt, batches, cut)?;
-        assert_eq!(rt;
-            read(&rt, log, &[], None)?,
-            Answer::Refused(ReloadError::BadLog { at })
-        );
+        let seen = read_batches(&rt, batches, cut, &[], None);
+        check(&rt, seen, Answer::Refused(ReloadError::BadLog { at }));
     }
-    Ok(())
 }
 
 // At the log's end, and at the record of a restart whatever it tells.
 #[test]
-fn the_damage_of_an_epoch_is_told(rt: HostRuntime) -> Result<()> {
+fn the_damage_of_an_epoch_is_told(rt: HostRuntime) {
     let logs: [&[&[&[u8]]]; 3] = [
         &[&[&AUDIT], &[&FAILED]],
         &[&[&AUDIT], &[&FAILED], &[&RESTARTED]],
         &[&[&AUDIT], &[&FAILED], &[&RESTARTED_1], &[&COMMIT_1]],
     ];
     for batches in logs {
-        let log = log_of(&rt, batches, 0)?;
-        assert_eq!(rt; read(&rt, log, &[], None)?, Answer::Damaged(1, 1, 1));
+        let seen = read_batches(&rt, batches, 0, &[], None);
+        check(&rt, seen, Answer::Damaged(1, 1, 1));
     }
-    Ok(())
 }
 
 // Two epochs whose audits failed, of which the first was recovered, with transaction 1 deleted: what a pass comes to where this
 // damage is known. So three passes read the log, each with what those before it told.
 #[test]
-fn a_log_is_read_in_passes(rt: HostRuntime) -> Result<()> {
+fn a_log_is_read_in_passes(rt: HostRuntime) {
     let batches: [&[&[u8]]; 7] = [
         &[&BEGIN_1, &PUT_1, &COMMIT_1],
         &[&AUDIT],
@@ -263,24 +275,16 @@ fn a_log_is_read_in_passes(rt: HostRuntime) -> Result<()> {
         (&[(1, 1, 1), (7, 7, 0)], Answer::Damaged(7, 7, 1)),
     ];
     for (known, told) in passes {
-        let log = log_of(&rt, &batches, 0)?;
-        assert_eq!(rt; read(&rt, log, known, None)?, told);
+        check(&rt, read_batches(&rt, &batches, 0, known, None), told);
     }
-    Ok(())
 }
 
 // A short log is read by one call.
 #[test]
-fn a_fault_is_told(rt: HostRuntime) -> Result<()> {
+fn a_fault_is_told(rt: HostRuntime) {
     let batches: [&[&[u8]]; 1] = [&[&BEGIN_1]];
-    let failing = read(&rt, log_of(&rt, &batches, 0)?, &[], Some(0))?;
-    let passing = read(&rt, log_of(&rt, &batches, 0)?, &[], Some(1))?;
-    assert_eq!(rt;
-        (failing, passing),
-        (
-            Answer::Refused(ReloadError::Fault),
-            Answer::Whole((1, 0, 2, 2, 29, 1, 9, None))
-        )
-    );
-    Ok(())
+    let failing = read_batches(&rt, &batches, 0, &[], Some(0));
+    check(&rt, failing, Answer::Refused(ReloadError::Fault));
+    let passing = read_batches(&rt, &batches, 0, &[], Some(1));
+    check(&rt, passing, Answer::Whole((1, 0, 2, 2, 29, 1, 9, None)));
 }

@@ -10,6 +10,9 @@ use Rattle.dali_record.proofs.Lengths.{words_are_8}
 use Rattle.dali_store.specs.declared.store.FileName.{FileName}
 use Rattle.dali_store.specs.Store.{Files, file_of, Holds, HoldsIn}
 use Rattle.dali_traces.proofs.Ordered.{reaches}
+use Rattle.dali_image.specs.Headers.{heading}
+use Rattle.dali_image.specs.declared.header.Header.{Header}
+use Rattle.dali_image.proofs.OneHeader.{heading_is_64}
 
 -- nothing was written
 holds_none : (p : ℕ) (xs : List ℕ) → Holds xs p [] xs
@@ -66,6 +69,11 @@ held_to f p q bs (Some fs) (Some gs) at within holds = omega (arith, at, reaches
 pub from_start : (f : FileName) (t : Option Files) → IfSome t (λ fs. 0 ≤ length (file_of f fs))
 from_start f None = tt
 from_start f (Some fs) = omega arith
+
+-- a header's bytes at the start, and others behind them
+pub held_front : (f : FileName) (h : Header) (bytes words : List ℕ) (t u v : Option Files) → bytes ≡ heading h → HoldsIn f 0 bytes t u → HoldsIn f 64 words u v → HoldsIn f 0 (heading h ++ words) t v
+held_front f h bytes words t u v are one two =
+    held_then f 0 64 bytes words (heading h ++ words) t u v (let size : 64 ≡ 0 + length bytes = omega (arith, ap length are, heading_is_64 h) in size) (ap (λ l. l ++ words) are) (from_start f t) one two
 
 -- ---- the words of regions
 pub regions_are_512 : (rs : List (List ℕ)) → AllByRecursion (λ ws. length ws ≡ 64) rs → length (flat_map words_bytes rs) ≡ 512 * length rs

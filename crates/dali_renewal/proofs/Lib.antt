@@ -3,3 +3,4 @@ pub mod Bytes
 pub mod Images
 pub mod Bodies
 pub mod Staged
+pub mod Turned

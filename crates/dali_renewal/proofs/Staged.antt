@@ -1,5 +1,5 @@
 -- What a renewal makes of the stages of a restart.
-use Rattle.std.proofs.Common.{◌≡◌, ◌≢◌, ℕ, suc, ◌+◌, ◌<◌, ◌≤◌, ◌^◌, List, [], ◌∷◌, ◌++◌, length, Option, Some, None, refl, ap, sym, subst, ◌∙◌, inl, inr, arith}
+use Rattle.std.proofs.Common.{◌≡◌, ◌≢◌, ℕ, ◌+◌, ◌<◌, ◌≤◌, ◌^◌, List, [], ◌∷◌, ◌++◌, length, Option, Some, None, refl, ap, sym, subst, ◌∙◌, inl, inr, arith}
 use Rattle.std.specs.Prelude.{is_some, sum_by}
 use Rattle.std.specs.List.{AllByRecursion}
 use Rattle.std.proofs.lemmas.List.{append-nil}
@@ -7,7 +7,7 @@ use Rattle.std.proofs.lemmas.List.Sums.{sum_by-append}
 use Rattle.dali_lists.proofs.Lists.{get_push}
 use Rattle.dali_geometry.specs.Places.{regions}
 use Rattle.dali_record.specs.declared.records.Record.{Record}
-use Rattle.dali_record.specs.Blocks.{AreWords}
+use Rattle.dali_record.specs.Blocks.{AllAreWords}
 use Rattle.dali_record.specs.Legal.{sizes_of, IsLegalFor}
 use Rattle.dali_record.specs.Spelling.{record_length, spelling}
 use Rattle.dali_record.specs.Files.{Files, batch_length, next_after}
@@ -21,15 +21,14 @@ use Rattle.dali_store.proofs.Moments.{started, weaker, joins}
 use Rattle.dali_batch.specs.Appending.{next_place, SomeAdded, AllAdded}
 use Rattle.dali_batch.specs.Batch.{IsClosedAt, batches}
 use Rattle.dali_batch.specs.Log.{AreSpelled, bodies, records_in}
+use Rattle.dali_batch.proofs.Bytes.{batches_length}
 use Rattle.dali_history.proofs.Restarts.{none_in_nothing}
-use Rattle.dali_system.specs.Run.{AllAreWords}
 use Rattle.dali_crash.specs.Checkpoints.{side_of}
 use Rattle.dali_crash.proofs.Closing.{lawful_restarts}
 use Rattle.dali_crash.proofs.RecoveredWords.{recovered_words}
 use Rattle.dali_traces.specs.Disks.{AllSpell, CanBeImage, IsAnchor, IsImageOf, image_file, image_name}
 use Rattle.dali_traces.specs.Anchors.{HasMoved, MayHaveMoved, AreAnchored}
 use Rattle.dali_traces.specs.Bridges.{closed_head}
-use Rattle.dali_traces.proofs.Bridges.{batches_length}
 use Rattle.dali_traces.proofs.Heads.{heads_fit}
 use Rattle.dali_resume.specs.Again.{closing}
 use Rattle.dali_again.specs.Stages.{IsLogged, IsAppending, IsMoving, AnswersAs, HoldsImage, closing_bodies}
@@ -81,17 +80,13 @@ ready_by old new end n closed logs anchored = record {
 
 -- ---- the image
 
-by_regions : (rs : List (List ℕ)) → AllAreWords rs → AllByRecursion AreWords rs
-by_regions [] each = tt
-by_regions (ws ∷ rs) each = (each 0 ws refl, by_regions rs (λ r us there. each (suc r) us there))
-
 module _ (L : List Record) (B : List (List Record)) (n : ℕ) (p : Standing) (words : List (List ℕ)) (is : IsStanding L B n p words) where
   image_fits : p.current < 2 ^ 62 → p.place < 2 ^ 62 → length words ≡ regions p.geometry → CanBeImage p.geometry (head_in (header_at p)) words
   image_fits current place whole =
       heads_fit p.geometry L (head_in (header_at p)) words (subst (λ s. IsLegalFor s L) (sym is.sizes) is.restarting.lawful.legal) is.restarting.lawful.spelled
       (none_in_nothing L is.restarting.some.0 is.restarting.some.1 is.restarting.some.2)
       (record { first = is.first; weight = is.weight; next = is.next; table = inr refl }) (omega (arith, current)) (omega (arith, place)) whole
-      (subst (AllByRecursion AreWords) (sym is.image) (by_regions (recovered (sizes_of L) L) (recovered_words L is.restarting.lawful.spelled)))
+      (subst AllAreWords (sym is.image) (recovered_words L is.restarting.lawful.spelled))
 
   head_is : head_in (header_at p) ≡ closed_head (n + 1) B
   head_is =

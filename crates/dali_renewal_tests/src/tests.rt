@@ -99,8 +99,10 @@ fn image_of(alloc: Global, heap: u32) -> Option<(usize, bool)> {
 #[test]
 fn an_image_has_header_words_and_an_empty_table(rt: HostRuntime) -> Result<(), Fail> {
     let alloc = rt.alloc();
-    assert_eq!(rt; image_of(alloc, 1), Some((1092, true)));
-    assert_eq!(rt; image_of(alloc, 129), Some((66628, true)));
+    assert_eq!(rt;
+        (image_of(alloc, 1), image_of(alloc, 129)),
+        (Some((1092, true)), Some((66628, true)))
+    );
     Ok(())
 }
 
@@ -118,12 +120,17 @@ fn standing_at(geometry: Geometry, place: u64, current: u64) -> Standing
     }
 }
 
-// Formats a store with this first batch, and renews it.
+// What a renewal answers, and what a second one does.
+type Answers = (Result<u64, RenewalError>, Option<Result<u64, RenewalError>>);
+
+// Formats a store with this first batch, and renews it so many times, once or twice; for 0 it logs the record alone. The second
+// time the record stands in the log, and the image is written into the other file.
 fn format_and_renew<V: Store>(
     alloc: Global,
     store: &mut V,
     first: &Frame,
-) -> Option<Result<u64, RenewalError>>
+    renewals: u32,
+) -> Option<Answers>
     requires { 0 < length first.now.body }
 {
     let Ok(geometry) = Geometry::new(1, 1) else {
@@ -138,42 +145,13 @@ fn format_and_renew<V: Store>(
     if place >= 1 << 32 {
         return None;
     }
-    let standing = standing_at(geometry, place, 0);
-    let regions = [[1; 64], [2; 64]];
-    Some(renew(
-        alloc,
-        store,
-        &standing,
-        None,
-        &ROLLED_BACK,
-        &DELETED,
-        &regions,
-    ))
-}
-
-// The same, and renews it again, where the record stands: the second image is written into the other file.
-fn format_and_renew_twice<V: Store>(
-    alloc: Global,
-    store: &mut V,
-    first: &Frame,
-) -> Option<(u64, Result<u64, RenewalError>)>
-    requires { 0 < length first.now.body }
-{
-    let Ok(geometry) = Geometry::new(1, 1) else {
-        return None;
-    };
-    let Ok(false) = is_formatted(store) else {
-        return None;
-    };
-    let Ok(place) = format(store, first) else {
-        return None;
-    };
-    if place >= 1 << 32 {
-        return None;
+    if renewals == 0 {
+        let logged = log_restart(alloc, store, place, &ROLLED_BACK, &DELETED);
+        return Some((logged, None));
     }
     let standing = standing_at(geometry, place, 0);
     let regions = [[1; 64], [2; 64]];
-    let Ok(end) = renew(
+    let end = match renew(
         alloc,
         store,
         &standing,
@@ -181,42 +159,24 @@ fn format_and_renew_twice<V: Store>(
         &ROLLED_BACK,
         &DELETED,
         &regions,
-    ) else {
-        return None;
+    ) {
+        Ok(end) => end,
+        Err(error) => return Some((Err(error), None)),
     };
+    if renewals == 1 {
+        return Some((Ok(end), None));
+    }
     let again = standing_at(geometry, place, 1);
-    Some((
-        end,
-        renew(
-            alloc,
-            store,
-            &again,
-            Some(end),
-            &ROLLED_BACK,
-            &DELETED,
-            &regions,
-        ),
-    ))
-}
-
-// Formats a store with this first batch, and logs the record alone.
-fn format_and_log<V: Store>(
-    alloc: Global,
-    store: &mut V,
-    first: &Frame,
-) -> Option<Result<u64, RenewalError>>
-    requires { 0 < length first.now.body }
-{
-    let Ok(false) = is_formatted(store) else {
-        return None;
-    };
-    let Ok(place) = format(store, first) else {
-        return None;
-    };
-    if place >= 1 << 32 {
-        return None;
-    }
-    Some(log_restart(alloc, store, place, &ROLLED_BACK, &DELETED))
+    let second = renew(
+        alloc,
+        store,
+        &again,
+        Some(end),
+        &ROLLED_BACK,
+        &DELETED,
+        &regions,
+    );
+    Some((Ok(end), Some(second)))
 }
 
 // A frame of the first batch.
@@ -234,24 +194,28 @@ fn first_frame(alloc: Global) -> Option<Frame>
 // The calls of a format: a sync, a length and a read; a length, two writes and two syncs; and a batch's four.
 const BEFORE: u64 = 12;
 
-// How a renewal ends where its first calls pass, so many of them; and, behind a cut, the log's gate at its end, the anchor's
-// first gate, and the image's length.
-fn cut_short(
-    alloc: Global,
-    passes: u64,
-    choice: u32,
-) -> Option<(Option<Result<u64, RenewalError>>, u8, u8, usize)> {
+// How a renewal ends; and, behind a cut, the log's gate at its end, the anchor's first gate, and the image's length.
+type Cut = (Result<u64, RenewalError>, (u8, u8, usize));
+
+// So where the first calls of the renewal pass, so many of them.
+fn cut_short(alloc: Global, passes: u64, choice: u32) -> Option<Cut> {
     let mut fuse = Fuse::new(
         MemoryStore::new(alloc, Vec::new(alloc)),
         Some(BEFORE.saturating_add(passes)),
     );
     let first = first_frame(alloc)?;
-    let renewed = format_and_renew(alloc, &mut fuse, &first);
+    let (renewed, _) = format_and_renew(alloc, &mut fuse, &first, 1)?;
     let mut store = fuse.into_inner();
     store.cut(choice).ok()?;
     let log = *store.file(FileName::Log).get(15)?;
     let anchor = *store.file(FileName::Anchor).first()?;
-    Some((renewed, log, anchor, store.file(FileName::ImageA).len()))
+    let length = store.file(FileName::ImageA).len();
+    Some((renewed, (log, anchor, length)))
+}
+
+// Behind the cut that leaves all that was written, and behind the one that leaves what was synced.
+fn cut_both(alloc: Global, passes: u64) -> Option<(Cut, Cut)> {
+    Some((cut_short(alloc, passes, 0)?, cut_short(alloc, passes, 1)?))
 }
 
 // The record is logged by two writes, each with a sync; then header, words and table are written, and that file is synced; then
@@ -259,8 +223,7 @@ fn cut_short(
 #[test]
 fn each_call_fails_in_turn(rt: HostRuntime) -> Result<(), Fail> {
     let alloc = rt.alloc();
-    let fault = Some(Err(RenewalError::Fault));
-    let done = Some(Ok(53));
+    let (fault, done) = (Err(RenewalError::Fault), Ok(53));
     for (passes, renewed, written, synced) in [
         (0, fault, (0, 0, 0), (0, 0, 0)),
         (1, fault, (0, 0, 0), (0, 0, 0)),
@@ -277,11 +240,8 @@ fn each_call_fails_in_turn(rt: HostRuntime) -> Result<(), Fail> {
         (12, done, (0xa5, 0xa5, 1092), (0xa5, 0xa5, 1092)),
     ] {
         assert_eq!(rt;
-            (cut_short(alloc, passes, 0), cut_short(alloc, passes, 1)),
-            (
-                Some((renewed, written.0, written.1, written.2)),
-                Some((renewed, synced.0, synced.1, synced.2))
-            ),
+            cut_both(alloc, passes),
+            Some(((renewed, written), (renewed, synced))),
             "{passes}"
         );
     }
@@ -298,47 +258,39 @@ fn is_renewed(store: &MemoryStore, anchor: &[u8]) -> bool {
         && image.len() == 1092
 }
 
-// One renewal, and whether its files are as expected.
-fn renewed_once(alloc: Global) -> Option<(Option<Result<u64, RenewalError>>, bool, usize)> {
+// One renewal or two, whether the files are as expected where the anchor has these bytes, and how long the other image is.
+fn renewed(alloc: Global, renewals: u32, anchor: &[u8]) -> Option<(Answers, bool, usize)> {
     let first = first_frame(alloc)?;
     let mut store = MemoryStore::new(alloc, Vec::new(alloc));
-    let end = format_and_renew(alloc, &mut store, &first);
+    let answers = format_and_renew(alloc, &mut store, &first, renewals)?;
     Some((
-        end,
-        is_renewed(&store, &[0xa5, 0]),
-        store.file(FileName::ImageB).len(),
-    ))
-}
-
-// Two of them.
-fn renewed_twice(alloc: Global) -> Option<(Option<(u64, Result<u64, RenewalError>)>, bool, usize)> {
-    let first = first_frame(alloc)?;
-    let mut store = MemoryStore::new(alloc, Vec::new(alloc));
-    let ends = format_and_renew_twice(alloc, &mut store, &first);
-    Some((
-        ends,
-        is_renewed(&store, &[0xa5, 0xa5, 0]),
+        answers,
+        is_renewed(&store, anchor),
         store.file(FileName::ImageB).len(),
     ))
 }
 
 // The record alone, and whether the log is as expected.
-fn logged(alloc: Global) -> Option<(Option<Result<u64, RenewalError>>, bool)> {
+fn logged(alloc: Global) -> Option<(Answers, bool)> {
     let first = first_frame(alloc)?;
     let mut store = MemoryStore::new(alloc, Vec::new(alloc));
-    let end = format_and_log(alloc, &mut store, &first);
-    Some((end, store.file(FileName::Log) == LOG.as_slice()))
+    let answers = format_and_renew(alloc, &mut store, &first, 0)?;
+    Some((answers, store.file(FileName::Log) == LOG.as_slice()))
 }
 
 #[test]
 fn the_record_is_logged_once(rt: HostRuntime) -> Result<(), Fail> {
     let alloc = rt.alloc();
     assert_eq!(rt;
-        (logged(alloc), renewed_once(alloc), renewed_twice(alloc)),
         (
-            Some((Some(Ok(53)), true)),
-            Some((Some(Ok(53)), true, 0)),
-            Some((Some((53, Ok(53))), true, 1092))
+            logged(alloc),
+            renewed(alloc, 1, &[0xa5, 0]),
+            renewed(alloc, 2, &[0xa5, 0xa5, 0])
+        ),
+        (
+            Some(((Ok(53), None), true)),
+            Some(((Ok(53), None), true, 0)),
+            Some(((Ok(53), Some(Ok(53))), true, 1092))
         )
     );
     Ok(())

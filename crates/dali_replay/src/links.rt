@@ -1,25 +1,10 @@
 //! How blocks are linked, looking back over all earlier ones.
 ghost use Rattle.std.specs.Prelude.{◌≡◌, ◌<◌, ◌≤◌, [], take, drop, length, IfOk, OnOk};
 ghost use Rattle.std.specs.List.{list_any};
-ghost use Rattle.dali_record.specs.Operations.{changes};
 ghost use Rattle.dali_replay.specs.Marking.{toucher, touches, reaches, key_step, undo_keys, links_from, linked_here, linked_after};
 
-use dali_record::{Block, Outcome, Record};
+use dali_record::{Block, Record, changes};
 use std::alloc::{AllocError, Global};
-
-// Whether a block with this outcome changes its item.
-fn changes(outcome: &Outcome) -> bool
-    ensures { result ≡ changes outcome.now }
-{
-    match outcome {
-        Outcome::Added { .. } => true,
-        Outcome::Killed => true,
-        Outcome::Put { .. } => true,
-        Outcome::Changed => true,
-        Outcome::Undone => true,
-        _ => false,
-    }
-}
 
 // Whether an earlier block writes a word that `block` reads, or changes its item.
 fn touches(earlier: &Block, block: &Block) -> bool

@@ -14,7 +14,7 @@ use Rattle.dali_att.specs.Table.{Table}
 use Rattle.dali_record.specs.declared.operations.Pending.{Pending}
 use Rattle.dali_record.specs.declared.records.Record.{Record}
 use Rattle.dali_record.specs.declared.records.Record.TheVariants.{Format}
-use Rattle.dali_record.specs.Blocks.{AreWords}
+use Rattle.dali_record.specs.Blocks.{AreWords, AllAreWords}
 use Rattle.dali_record.specs.Files.{Files, batch_length}
 use Rattle.dali_record.specs.Legal.{sizes_of}
 use Rattle.dali_record.specs.Spelling.{CanBeSpelled, words_bytes}
@@ -92,7 +92,7 @@ size_in_range s can =
 
 -- ---- the image's file
 
-image_length : (image : List (List ℕ)) → AllByRecursion AreWords image → length (flat_map words_bytes image) ≡ 512 * length image
+image_length : (image : List (List ℕ)) → AllAreWords image → length (flat_map words_bytes image) ≡ 512 * length image
 image_length [] all = refl
 image_length (ws ∷ image) all = omega (arith, length-append (words_bytes ws) (flat_map words_bytes image), words_are_8 ws, all.0.0, image_length image all.1)
 
@@ -181,7 +181,7 @@ all_same : {X : Type 0} (P : X → Type 0) (n : ℕ) (x : X) → P x → AllByRe
 all_same P zero x is = tt
 all_same P (suc n) x is = (is, all_same P n x is)
 
-formatted_words : (s : Sizes) → AllByRecursion AreWords (formatted_image s)
+formatted_words : (s : Sizes) → AllAreWords (formatted_image s)
 formatted_words s =
     let zeros : AllByRecursion (λ w. w < 2 ^ 64) (replicate 63 0) = all_same (λ w. w < 2 ^ 64) 63 0 (omega arith) in
     let blank : AreWords (replicate 64 0) = (refl, all_same (λ w. w < 2 ^ 64) 64 0 (omega arith)) in
@@ -319,7 +319,7 @@ module _ (fs : Disk) (F : Files) (is : Spells fs F) (finds : FindsIt F) where
 -- ---- a recovery behind what was opened
 pub at_image :
     (fs : Disk) (o : Sizes) (c : ℕ) (h : Header) (image : List (List ℕ)) (m : Table Pending) (r : Reading) (x : Recovery)
-    → IsOpened fs o c h image m r → IsInRange o h image m → AllByRecursion AreWords image
+    → IsOpened fs o c h image m r → IsInRange o h image m → AllAreWords image
     → ((F : Files) → F.first ≡ h.first → F.next ≡ h.next → F.image ≡ image → Starts F m → Stands o h.first x (going_at F)) → x.scan ≡ None
     → (s : Sizes) (F : Files) → BeginsAt fs s F → IsOneOpening o s c h image m F × IsAtImage fs.log s F r x
 at_image fs o c h image m r x is range words stands plain s F b =

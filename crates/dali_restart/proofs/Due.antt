@@ -1,25 +1,23 @@
 -- What is due behind what was read, and where a core begins then.
-use Rattle.std.proofs.Common.{◌≡◌, ◌⊎◌, inl, inr, ℕ, ◌+◌, ◌-◌, ◌<◌, ◌≤◌, ◌^◌, Bool, true, false, List, [], ◌∷◌, length, Option, Some, None, IfSome, Result, Ok, Err, refl, ap, sym, subst, ◌∙◌, arith, length-append}
+use Rattle.std.proofs.Common.{◌≡◌, ℕ, ◌+◌, ◌-◌, ◌<◌, ◌≤◌, ◌^◌, Bool, true, false, List, [], length, Option, Some, None, IfSome, Result, Ok, Err, refl, ap, sym, subst, ◌∙◌, arith, length-append}
 use Rattle.std.specs.Prelude.{IfOk, OnOk, if◌then◌else◌}
 use Rattle.std.proofs.Math.Nat.{lt_of_not-le}
+use Rattle.dali_lists.proofs.Options.{if_some_then}
 use Rattle.dali_store.specs.Store.{Files as Disk}
 use Rattle.dali_batch.specs.Appending.{next_place}
 use Rattle.dali_batch.specs.Batch.{IsClosedAt, batch, batches}
 use Rattle.dali_batch.proofs.Bytes.{length-batch}
 use Rattle.dali_traces.specs.Anchors.{AreAnchored}
 use Rattle.dali_traces.specs.Disks.{IsAnchor}
-use Rattle.dali_reload.specs.Scanning.{AreSmall}
 use Rattle.dali_reload.specs.declared.counts.BeforeRestart.{BeforeRestart}
-use Rattle.dali_renewal.specs.Logged.{restart_bodies, restart_body, restart_length, restart_of}
-use Rattle.dali_renewal.specs.Renewed.{AreReady, end_of}
+use Rattle.dali_renewal.specs.Logged.{restart_bodies, restart_body, restart_length}
+use Rattle.dali_renewal.specs.Renewed.{AreReady, Renews, Stops, end_of}
 use Rattle.dali_renewal.specs.declared.renewing.Standing.{Standing}
 use Rattle.dali_renewal.proofs.Bodies.{body_length, one_body}
-use Rattle.dali_rise.specs.Behind.{resting_behind}
 use Rattle.dali_rise.specs.declared.rising.Resting.{Resting}
-use Rattle.dali_restart.specs.declared.restarting.Due.{Due}
 use Rattle.dali_restart.specs.declared.restarting.Due.TheVariants as dues
 use Rattle.dali_restart.specs.declared.restarting.Found.{Found}
-use Rattle.dali_restart.specs.Deciding.{IsInOrder, IsReadIn, IsSmallRest, LogsRecord, WritesImage, at_end, before, due_by, due_of, resting_of}
+use Rattle.dali_restart.specs.Deciding.{IsInOrder, IsReadIn, IsSmallRest, IsWritten, LogsRecord, WritesImage, at_end, before, due_by, due_of, resting_of}
 
 -- what is said of a result where it is Ok, twice
 pub if_ok_both : {T E : Type 0} (P R : T → Type 0) (Q : Type 0) (result : Result T E) → IfOk result P → OnOk result Q → ((x : T) → P x → Q → R x)
@@ -69,6 +67,9 @@ are_anchored fs may x is c left =
     let same = (is.reads x.base.geometry is.files is.begins).0.current in
     subst (λ (d : Disk). IsAnchor d.anchor x.base.current) (sym (is.only c left)) (subst (IsAnchor fs.anchor) (sym same) is.begins.opened.anchor)
 
+pub closed_there : (told : Option Disk) (may : Disk → Type 0) (x : Found) (p : Standing) → p ≡ at_end x → IfSome told (λ fs. IsReadIn fs may x) → IfSome told (λ _. (c : Disk) → may c → IsClosedAt p.place c.log)
+closed_there told may x p is read = if_some_then _ _ told read (λ fs found c left. subst (λ (q : Standing). IsClosedAt q.place c.log) (sym is) (is_closed fs may x found c left))
+
 pub are_ready : (fs : Disk) (may : Disk → Type 0) (x : Found) → IsReadIn fs may x → AreReady may x.reloaded.end x.base.current
 are_ready fs may x is = record { closed = is_closed fs may x is; anchored = are_anchored fs may x is }
 
@@ -114,11 +115,20 @@ not_longer n never =
     omega (arith, less)
 
 -- ---- what was written
-pub moved_to :
+moved_to :
     (P : Standing → Option ℕ → List ℕ → List ℕ → List (List ℕ) → Type 0) (p q : Standing) (m n : Option ℕ) (rs rt ds dt : List ℕ) (ws wt : List (List ℕ))
     → p ≡ q → m ≡ n → rs ≡ rt → ds ≡ dt → ws ≡ wt → P p m rs ds ws → P q n rt dt wt
 moved_to P p q m n rs rt ds dt ws wt one two three four five h =
     subst (P q n rt dt) five (subst (λ (d : List ℕ). P q n rt d ws) four (subst (λ (r : List ℕ). P q n r ds ws) three (subst (λ (k : Option ℕ). P q k rs ds ws) two (subst (λ (s : Standing). P s m rs ds ws) one h))))
+
+-- what a renewal made with what was read through slices, it made with what was found
+pub written_at : {V T E : Type 0} (told : V → Option Disk) (may_leave : V → Disk → Type 0) (moment : V → ℕ) (left_since : V → ℕ → Disk → Type 0) (p q : Standing) (m n : Option ℕ) (rs rt ds dt : List ℕ) (ws wt : List (List ℕ)) (old new : V) (result : Result T E)
+    → p ≡ q → m ≡ n → rs ≡ rt → ds ≡ dt → ws ≡ wt → OnOk result (IfSome (told old) (λ _. Renews may_leave moment left_since p m rs ds ws old new)) → IfSome (told old) (λ _. Stops may_leave moment left_since p m rs ds ws old new)
+    → IsWritten told may_leave moment left_since q n rt dt wt old new result
+written_at told may_leave moment left_since p q m n rs rt ds dt ws wt old new result one two three four five renews stops = record {
+  renews = moved_to (λ s k r d l. OnOk result (IfSome (told old) (λ _. Renews may_leave moment left_since s k r d l old new))) p q m n rs rt ds dt ws wt one two three four five renews;
+  stops = moved_to (λ s k r d l. IfSome (told old) (λ _. Stops may_leave moment left_since s k r d l old new)) p q m n rs rt ds dt ws wt one two three four five stops;
+}
 
 -- ---- it is small
 pub rest_is_small : (x : Found) → IsInOrder x → IsSmallRest x (resting_of (at_end x))

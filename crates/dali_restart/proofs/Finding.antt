@@ -1,7 +1,6 @@
 -- What is found before the first record behind the image.
 use Rattle.std.proofs.Common.{◌≡◌, ◌⊎◌, inl, inr, ⊎_elim, ℕ, zero, suc, ◌+◌, ◌*◌, ◌<◌, List, [], ◌∷◌, ◌++◌, length, drop, Option, None, IfSome, refl, ap, sym, subst, ◌∙◌, arith, append_assoc, length-append, take-append-drop}
 use Rattle.std.specs.Prelude.{flat_map}
-use Rattle.std.specs.List.{AllByRecursion}
 use Rattle.std.specs.Option.{option_map_or}
 use Rattle.std.specs.Ordering.{nat_cmp}
 use Rattle.std.specs.FinMap.{get, get-empty}
@@ -9,13 +8,14 @@ use Rattle.std.proofs.lemmas.List.{drop-drop}
 use Rattle.dali_lists.proofs.Options.{if_some_then}
 use Rattle.dali_geometry.specs.Sizes.{Sizes}
 use Rattle.dali_geometry.specs.Places.{regions}
+use Rattle.dali_geometry.proofs.Regions.{length_formatted}
 use Rattle.dali_bytes.specs.Fields.{number32}
 use Rattle.dali_bytes.proofs.Numbers.{length-number32}
 use Rattle.dali_att.specs.Table.{Row, Table, undos_at}
 use Rattle.dali_record.specs.declared.operations.Pending.{Pending}
 use Rattle.dali_record.specs.declared.records.Record.{Record}
 use Rattle.dali_record.specs.declared.records.Record.TheVariants.{Format}
-use Rattle.dali_record.specs.Blocks.{AreWords}
+use Rattle.dali_record.specs.Blocks.{AllAreWords}
 use Rattle.dali_record.specs.Spelling.{CanBeSpelled, words_bytes}
 use Rattle.dali_record.specs.Legal.{sizes_of}
 use Rattle.dali_record.specs.Files.{Files}
@@ -38,7 +38,6 @@ use Rattle.dali_image.specs.declared.header.Expected.{Expected}
 use Rattle.dali_renewal.proofs.Images.{of_side}
 use Rattle.dali_restart.specs.Opening.{BeginsWith, BadImageAt, IsImageIn, IsInRange, IsNoImage, IsBadStore, IsBadLog, IsBadAnchor, IsBadImage, file_in, expected}
 use Rattle.dali_restart.specs.Laws.{WhatOpensIsSpelled, IsSpelledBy}
-use Rattle.dali_restart.proofs.Formatted.{image_length}
 
 -- ---- the first batch
 begins_at : (log : List ℕ) (front : List (List Record)) (r : Reading) → IsReadFrom log 0 front [] r → (end : ℕ) × IsRun log 0 front end
@@ -90,7 +89,7 @@ same_sizes fs s (b ∷ B) end is log =
     ap (λ (c : List Record). sizes_of (c ++ flat_map (λ b. b) B)) same
 
 image_there : (bytes : List ℕ) (x : Expected) (h : Header) (image : List (List ℕ)) (m : Table Pending) → IsImageIn bytes x h image m
-    → (p : IsPassed bytes h m) → AllByRecursion AreWords image → IsImageOf h.geometry bytes p.head image
+    → (p : IsPassed bytes h m) → AllAreWords image → IsImageOf h.geometry bytes p.head image
 image_there bytes x h image m is p words =
     let s = h.geometry in
     let flat = flat_map words_bytes image in
@@ -133,7 +132,7 @@ before_any fs s c h image m B end log sizes anchor none is = record {
 
 behind_one :
     (fs : Disk) (s : Sizes) (c : ℕ) (h : Header) (image : List (List ℕ)) (m : Table Pending) (B : List (List Record)) (end : ℕ) → LogOf fs.log B end → sizes_of (flat_map (λ b. b) B) ≡ s
-    → IsAnchor fs.anchor c → 0 < c → IsImageIn (file_in fs c) (expected s c (length fs.log)) h image m → h.geometry ≡ s → (p : IsPassed (file_in fs c) h m) → AllByRecursion AreWords image
+    → IsAnchor fs.anchor c → 0 < c → IsImageIn (file_in fs c) (expected s c (length fs.log)) h image m → h.geometry ≡ s → (p : IsPassed (file_in fs c) h m) → AllAreWords image
     → IsSpelledBy fs s c h image m B (files_in c p.head image B)
 behind_one fs s c h image m B end log sizes anchor some is same p words = record {
   spells = record {
@@ -193,7 +192,7 @@ stands_in_range s h image m is = record {
   first = (omega (arith, ap (λ (k : Header). k.first) is.header), omega (arith, ap (λ (k : Header). k.first) is.header));
   weight = omega (arith, ap (λ (k : Header). k.weight) is.header);
   next = (omega (arith, ap (λ (k : Header). k.next) is.header), omega (arith, ap (λ (k : Header). k.next) is.header));
-  whole = ap length is.words ∙ image_length s;
+  whole = ap length is.words ∙ length_formatted s;
   undos = λ t. no_undos t (get m t) (ap (λ (k : Table Pending). get k t) is.table ∙ get-empty nat_cmp t);
 }
 

@@ -1,12 +1,12 @@
 -- The core over a log that was just formatted is whole, and a run begins with it.
-use Rattle.std.proofs.Common.{inl, inr, ⊎_elim, ◌≡◌, ℕ, ◌+◌, ◌<◌, ◌≤◌, true, false, List, [], ◌∷◌, ◌++◌, Some, None, Option, IfSome, length, take, replicate, refl, ap, sym, subst, ◌∙◌, arith, length-append}
+use Rattle.std.proofs.Common.{inl, inr, ⊎_elim, ◌≡◌, ℕ, ◌+◌, ◌<◌, ◌≤◌, true, false, List, [], ◌∷◌, ◌++◌, Some, None, Option, IfSome, length, take, refl, ap, sym, subst, ◌∙◌, arith, length-append}
 use Rattle.std.proofs.Common.{get_or}
 use Rattle.std.specs.Prelude.{is_some, Result, Ok, Err, IfOk}
 use Rattle.dali_store.specs.declared.store.StoreFault.{StoreFault}
-use Rattle.std.proofs.lemmas.List.{length-replicate, length-map, take_more, take_all, get_or-map}
+use Rattle.std.proofs.lemmas.List.{length-map, take_more, take_all, get_or-map}
 use Rattle.dali_geometry.specs.Sizes.{Sizes}
 use Rattle.dali_geometry.specs.Places.{regions, formatted, formatted_image}
-use Rattle.dali_geometry.proofs.Regions.{region_is_formatted}
+use Rattle.dali_geometry.proofs.Regions.{region_is_formatted, length_formatted}
 use Rattle.dali_bytes.specs.Fields.{number32}
 use Rattle.dali_bytes.proofs.Numbers.{length-number32}
 use Rattle.dali_record.specs.Spelling.{CanBeSpelled}
@@ -59,24 +59,17 @@ pub some_bytes : (s : Sizes) (body : List ℕ) → body ≡ first_body s → 0 <
 some_bytes s body is = omega (arith, ap length is, body_length s)
 
 -- ---- the regions
-pub image_length : (s : Sizes) → length (formatted_image s) ≡ regions s
-image_length s = parts (replicate 64 0) (1 ∷ replicate 63 0)
-  where
-    parts : (zeros heads : List ℕ) → length (replicate s.index zeros ++ replicate s.heap heads) ≡ regions s
-    parts zeros heads =
-        omega (arith, length-append (replicate s.index zeros) (replicate s.heap heads), length-replicate s.index zeros, length-replicate s.heap heads)
-
 pub one_words : (s : Sizes) (n : ℕ) (old new : List (List ℕ)) → n < regions s → old ≡ take n (formatted_image s) → new ≡ old ++ formatted s n ∷ []
     → new ≡ take (n + 1) (formatted_image s)
 one_words s n old new lt here is =
-    let inside : n < length (formatted_image s) = omega (arith, image_length s, lt) in
+    let inside : n < length (formatted_image s) = omega (arith, length_formatted s, lt) in
     is ∙ (ap (λ (l : List (List ℕ)). l ++ formatted s n ∷ []) here
     ∙ sym (take_more (formatted_image s) n [] inside ∙ ap (λ (ws : List ℕ). take n (formatted_image s) ++ ws ∷ []) (region_is_formatted s n lt)))
 
 pub one_region : (s : Sizes) (n : ℕ) (old new : List RegionState) → n < regions s → old ≡ take n (formatted_regions s)
     → new ≡ old ++ loaded (formatted s n) ∷ [] → new ≡ take (n + 1) (formatted_regions s)
 one_region s n old new lt here is =
-    let many : n < length (formatted_image s) = omega (arith, image_length s, lt) in
+    let many : n < length (formatted_image s) = omega (arith, length_formatted s, lt) in
     let inside : n < length (formatted_regions s) = omega (arith, length-map (formatted_image s) loaded, many) in
     let word : get_or (formatted_regions s) n (loaded []) ≡ loaded (formatted s n) =
     get_or-map loaded (formatted_image s) n [] (loaded []) many ∙ ap loaded (region_is_formatted s n lt) in
@@ -84,10 +77,10 @@ one_region s n old new lt here is =
     ∙ sym (take_more (formatted_regions s) n (loaded []) inside ∙ ap (λ (g : RegionState). take n (formatted_regions s) ++ g ∷ []) word))
 
 pub all_words : (s : Sizes) (n : ℕ) (words : List (List ℕ)) → regions s ≤ n → words ≡ take n (formatted_image s) → words ≡ formatted_image s
-all_words s n words le is = is ∙ take_all n (formatted_image s) (omega (arith, image_length s, le))
+all_words s n words le is = is ∙ take_all n (formatted_image s) (omega (arith, length_formatted s, le))
 
 pub all_regions : (s : Sizes) (n : ℕ) (gs : List RegionState) → regions s ≤ n → gs ≡ take n (formatted_regions s) → gs ≡ formatted_regions s
-all_regions s n gs le is = is ∙ take_all n (formatted_regions s) (omega (arith, length-map (formatted_image s) loaded, image_length s, le))
+all_regions s n gs le is = is ∙ take_all n (formatted_regions s) (omega (arith, length-map (formatted_image s) loaded, length_formatted s, le))
 
 -- ---- the core
 pub is_new :
@@ -114,7 +107,7 @@ module _ {V : Type 0} (told : V → Option Disk) where
 
       whole : IsWholeCore told (formatted_regions s) (first_system s limit).state v
       whole = record {
-        parts = λ u. load_is_whole s (formatted_image s) first limit u (image_length s);
+        parts = λ u. load_is_whole s (formatted_image s) first limit u (length_formatted s);
         files = every (told v.store) _ (λ fs side r g at clean. let dirty : is_dirty g side ≡ true = all_dirty (formatted_image s) r g side at in absurd (cc));
       }
 

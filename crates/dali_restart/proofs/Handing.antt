@@ -1,10 +1,8 @@
 -- What a restart hands out, and that a run begins with it.
-use Rattle.std.proofs.Common.{◌≡◌, ◌⊎◌, inl, inr, ⊎_elim, ℕ, ◌<◌, ◌≤◌, ◌^◌, Bool, List, [], ◌∷◌, map, Option, Some, None, IfSome, Result, Ok, Err, refl, ap, sym, subst, ◌∙◌, arith}
+use Rattle.std.proofs.Common.{◌≡◌, ◌⊎◌, inl, inr, ⊎_elim, ℕ, ◌≤◌, Bool, List, [], ◌∷◌, map, Option, Some, None, IfSome, Err, refl, ap, sym, subst, ◌∙◌, arith}
 use Rattle.std.specs.Prelude.{IsErrOf, is_some}
 use Rattle.dali_lists.proofs.Options.{if_some_then}
 use Rattle.dali_record.specs.Files.{Files}
-use Rattle.dali_record.specs.Legal.{Rules}
-use Rattle.dali_record.specs.declared.records.Record.{Record}
 use Rattle.dali_region.specs.declared.Side.{Side}
 use Rattle.dali_region.specs.State.{RegionState, loaded}
 use Rattle.dali_store.specs.Store.{Files as Disk, LeavesOnly, Only}
@@ -16,7 +14,7 @@ use Rattle.dali_batch.specs.Reads.{OnlyReads}
 use Rattle.dali_system.specs.Images.{Told}
 use Rattle.dali_core.specs.Served.{Served}
 use Rattle.dali_crash.specs.Checkpoints.{Head}
-use Rattle.dali_crash.specs.Traces.{MayRun, Start, StartsAt}
+use Rattle.dali_crash.specs.Traces.{MayRun, StartsAt}
 use Rattle.dali_traces.specs.Disks.{AllSpell, Spells}
 use Rattle.dali_vault.specs.Vaulted.{Vaulted}
 use Rattle.dali_vault.specs.Stepped.{vault_in}
@@ -110,14 +108,30 @@ module _ {V : Type 0} (told : V → Option Disk) (may_leave : V → Disk → Typ
             ),
           ))
 
-  pub begins_run : (fs : Disk) (may : Disk → Type 0) → IsReadIn fs may x → Settles fs x r (may_leave store)
+  begins_run : (fs : Disk) (may : Disk → Type 0) → IsReadIn fs may x → Settles fs x r (may_leave store)
       → BeginsRun told may_leave faults limit fs gs y.state v
   begins_run fs may is settles F spells finds = runs_from F (settles is.reads F spells finds)
 
-  pub rests_then : (fs : Disk) (may : Disk → Type 0) → IsReadIn fs may x → Settles fs x r (may_leave store) → (c : Disk) → may_leave v.store c
+  rests_then : (fs : Disk) (may : Disk → Type 0) → IsReadIn fs may x → Settles fs x r (may_leave store) → (c : Disk) → may_leave v.store c
       → LeavesAtRest fs c
   rests_then fs may is settles c left F spells finds =
       let q = (settles is.reads F spells finds).disks c (subst (λ (w : V). may_leave w c) (sym here) left) in (q.0, q.1, q.2, q.3)
+
+-- the same where the words were read through a slice
+module _ {V : Type 0} (told : V → Option Disk) (may_leave : V → Disk → Type 0) (faults : V → ℕ) (limit : ℕ) (fits : limit ≤ 268435456) (x : Found) (r : Resting) (store : V) (gs : List RegionState) (y : Served) (v : Vaulted V)
+    (words : List (List ℕ)) (same : words ≡ x.reloaded.recovered.regions.items) (risen : IsRisen r words limit store gs y v) (begins : RunBegins told may_leave faults r words limit gs y.state v)
+    (fs : Disk) (may : Disk → Type 0) (is : IsReadIn fs may x) (settles : Settles fs x r (may_leave store)) where
+  risen_there : IsRisen r x.reloaded.recovered.regions.items limit store gs y v
+  risen_there = subst (λ ws. IsRisen r ws limit store gs y v) same risen
+
+  begins_there : RunBegins told may_leave faults r x.reloaded.recovered.regions.items limit gs y.state v
+  begins_there = subst (λ ws. RunBegins told may_leave faults r ws limit gs y.state v) same begins
+
+  pub begins_over : BeginsRun told may_leave faults limit fs gs y.state v
+  begins_over = begins_run told may_leave faults limit fits x r store gs y v risen_there begins_there fs may is settles
+
+  pub rests_over : (c : Disk) → may_leave v.store c → LeavesAtRest fs c
+  rests_over = rests_then told may_leave faults limit fits x r store gs y v risen_there begins_there fs may is settles
 
 -- ---- what is left
 is_on_way : (F : Files) → FindsIt F → IsOnWay F F

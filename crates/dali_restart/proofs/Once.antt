@@ -1,14 +1,13 @@
 -- A disk is opened as one thing, and read as one.
 use Rattle.std.proofs.Common.{◌≡◌, ◌⊎◌, inl, inr, ℕ, zero, suc, ◌+◌, ◌*◌, ◌<◌, true, List, [], ◌∷◌, ◌++◌, length, drop, take, refl, ap, sym, subst, ◌∙◌, arith, append_assoc}
 use Rattle.std.specs.Prelude.{flat_map, map}
-use Rattle.std.specs.List.{AllByRecursion}
 use Rattle.dali_geometry.specs.Sizes.{Sizes}
 use Rattle.dali_geometry.specs.Places.{regions}
 use Rattle.dali_bytes.specs.Fields.{number32}
 use Rattle.dali_att.specs.Table.{Table}
 use Rattle.dali_record.specs.declared.operations.Pending.{Pending}
 use Rattle.dali_record.specs.declared.records.Record.{Record}
-use Rattle.dali_record.specs.Blocks.{AreWords}
+use Rattle.dali_record.specs.Blocks.{AllAreWords}
 use Rattle.dali_record.specs.Files.{Files, Row}
 use Rattle.dali_record.specs.Reading.{numbers_at}
 use Rattle.dali_record.specs.Spelling.{ascends, words_bytes}
@@ -44,7 +43,7 @@ use Rattle.dali_recovery.proofs.Whole.{handed_same}
 use Rattle.dali_reload.proofs.Whole.{apart}
 
 -- ---- the words
-words_once : (xs ys : List (List ℕ)) → length xs ≡ length ys → AllByRecursion AreWords xs → AllByRecursion AreWords ys
+words_once : (xs ys : List (List ℕ)) → length xs ≡ length ys → AllAreWords xs → AllAreWords ys
     → flat_map words_bytes xs ≡ flat_map words_bytes ys → xs ≡ ys
 words_once [] [] n p q e = refl
 words_once [] (b ∷ ys) n p q e = absurd (omega (arith, n))
@@ -67,7 +66,7 @@ one_table bytes h m n a b = let e = sym a.spells ∙ b.spells in cc
 one_image_in :
     (bytes : List ℕ) (x : Expected) (h k : Header) (image other : List (List ℕ)) (m n : Table Pending) → IsImageIn bytes x h image m
     → IsImageIn bytes x k other n
-    → AllByRecursion AreWords image → AllByRecursion AreWords other → IsOneImage h k image other m n
+    → AllAreWords image → AllAreWords other → IsOneImage h k image other m n
 one_image_in bytes x h k image other m n a b p q =
     let same : h ≡ k = (one_header bytes h a.fits a.header).same k b.fits b.header in
     let size : length image ≡ length other = a.whole ∙ (ap (λ (g : Header). regions g.geometry) same ∙ sym b.whole) in
@@ -84,7 +83,7 @@ one_alone s h k image other m n a b = record { header = a.header ∙ sym b.heade
 one_found :
     (fs : Disk) (s : Sizes) (c : ℕ) (h k : Header) (image other : List (List ℕ)) (m n : Table Pending) → IsFoundIn fs s c h image m
     → IsFoundIn fs s c k other n
-    → AllByRecursion AreWords image → AllByRecursion AreWords other → IsOneImage h k image other m n
+    → AllAreWords image → AllAreWords other → IsOneImage h k image other m n
 one_found fs s zero h k image other m n a b p q = one_alone s h k image other m n (a.none refl) (b.none refl)
 one_found fs s (suc c) h k image other m n a b p q =
     one_image_in (file_in fs (suc c)) (expected s (suc c) (length fs.log)) h k image other m n (a.some (omega arith)) (b.some (omega arith)) p q
@@ -92,7 +91,7 @@ one_found fs s (suc c) h k image other m n a b p q =
 -- ---- once
 pub opens_as :
     (fs : Disk) (s : Sizes) (c : ℕ) (h : Header) (image : List (List ℕ)) (m : Table Pending) (r : Reading) → IsOpened fs s c h image m r
-    → AllByRecursion AreWords image
+    → AllAreWords image
     → (z : Sizes) (F : Files) → BeginsAt fs z F → IsOneOpening s z c h image m F
 opens_as fs s c h image m r is words z F b =
     let size : s ≡ z = one_size fs s z is.log b.opened.log in
@@ -115,7 +114,7 @@ opened_so fs s c d h k image other m n r e one is =
     (subst (λ (b : ℕ). IsOpened fs s b h image m r) e is)))
 
 alone_begins : (fs : Disk) (s : Sizes) (h : Header) (image : List (List ℕ)) (m : Table Pending) (r : Reading) → IsOpened fs s 0 h image m r
-    → IsNoImage s h image m → AllByRecursion AreWords image
+    → IsNoImage s h image m → AllAreWords image
     → BeginsAt fs s (unchecked s [])
 unfolding number32
 alone_begins fs s h image m r is alone words =
@@ -126,12 +125,12 @@ alone_begins fs s h image m r is alone words =
           opened_so fs s 0 0 h (header_of s (head_of F)) image F.image m (table_of F.table) r refl
           (record { header = alone.header; words = alone.words; table = alone.table }) is;
       rows = record { count = omega arith; fit = tt; ascending = refl };
-      words = subst (AllByRecursion AreWords) alone.words words;
+      words = subst AllAreWords alone.words words;
     }
 
 image_begins :
     (fs : Disk) (s : Sizes) (c : ℕ) (h : Header) (image : List (List ℕ)) (m : Table Pending) (r : Reading) → IsOpened fs s c h image m r → 0 < c
-    → AllByRecursion AreWords image
+    → AllAreWords image
     → (F : Files) × BeginsAt fs s F
 image_begins fs s c h image m r is some words =
     let found = is.image_is.some some in
@@ -153,7 +152,7 @@ image_begins fs s c h image m r is some words =
     )
 
 opens_some : (fs : Disk) (s : Sizes) (c : ℕ) (h : Header) (image : List (List ℕ)) (m : Table Pending) (r : Reading) → IsOpened fs s c h image m r
-    → AllByRecursion AreWords image → (F : Files) × BeginsAt fs s F
+    → AllAreWords image → (F : Files) × BeginsAt fs s F
 opens_some fs s zero h image m r is words = (unchecked s [], alone_begins fs s h image m r is (is.image_is.none refl) words)
 opens_some fs s (suc c) h image m r is words = image_begins fs s (suc c) h image m r is (omega arith) words
 

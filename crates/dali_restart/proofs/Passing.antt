@@ -7,7 +7,7 @@ use Rattle.std.proofs.lemmas.List.Elements.{Contains-append_right}
 use Rattle.dali_geometry.specs.Sizes.{Sizes}
 use Rattle.dali_att.specs.Table.{Table}
 use Rattle.dali_record.specs.declared.operations.Pending.{Pending}
-use Rattle.dali_record.specs.Blocks.{AreWords}
+use Rattle.dali_record.specs.Blocks.{AllAreWords}
 use Rattle.dali_record.specs.Damage.{Damage}
 use Rattle.dali_record.specs.Files.{Files}
 use Rattle.dali_store.specs.declared.store.FileName.{FileName}
@@ -51,7 +51,7 @@ all_below (w ∷ ws) each = (each 0, all_below ws (λ i. each (suc i)))
 
 -- ---- an image
 module _ (fs : Disk) (s : Sizes) (c : ℕ) (h : Header) (image : List (List ℕ)) (m : Table Pending) (r : Reading) (x : Recovery) (opened : IsOpened fs s c h image m r) (range : IsInRange s h image m)
-    (words : AllByRecursion AreWords image)
+    (words : AllAreWords image)
     (stands : (F : Files) → F.first ≡ h.first → F.next ≡ h.next → F.image ≡ image → Starts F m → Stands s h.first x (going_at F)) (plain : x.scan ≡ None) where
   abbrev here : Base
   here = record { geometry = s; current = c; header = h }

@@ -26,12 +26,12 @@ use Rattle.dali_history.specs.Recovered.{base_of, recovered}
 use Rattle.dali_store.specs.Store.{Files as Disk, Only}
 use Rattle.dali_store.proofs.Moments.{weaker}
 use Rattle.dali_batch.specs.Log.{AreSpelled}
+use Rattle.dali_batch.proofs.Bytes.{batches_length}
 use Rattle.dali_counts.proofs.ShortLogs.{batches_framed}
 use Rattle.dali_counts.proofs.Tallies.{numbers, numbers_drawn, tallies}
 use Rattle.dali_system.specs.Run.{log_in}
 use Rattle.dali_crash.specs.Fitting.{FitsWhole}
 use Rattle.dali_traces.specs.Disks.{AllSpell, Spells, sizes_in}
-use Rattle.dali_traces.proofs.Bridges.{batches_length}
 use Rattle.dali_traces.proofs.Ends.{some_in}
 use Rattle.dali_image.specs.declared.header.Header.{Header}
 use Rattle.dali_resume.specs.Again.{Outcome, closed_log, closing, outcome_is}

@@ -20,10 +20,11 @@ use Rattle.dali_store.specs.Store.{Files as Disk}
 use Rattle.dali_batch.specs.Log.{LogOf, TailOf}
 use Rattle.dali_batch.specs.Log as logs
 use Rattle.dali_batch.proofs.Fronts.{tail_from_place}
+use Rattle.dali_batch.proofs.Bytes.{batches_length}
 use Rattle.dali_crash.specs.Fitting.{FitsWhole}
 use Rattle.dali_system.specs.Run.{log_in}
 use Rattle.dali_traces.specs.Disks.{Spells, head_of, sizes_in}
-use Rattle.dali_traces.proofs.Bridges.{batches_length, ends_at}
+use Rattle.dali_traces.proofs.Bridges.{ends_at}
 use Rattle.dali_image.specs.Laws.{header_of, table_of}
 use Rattle.dali_resume.specs.Again.{Outcome}
 use Rattle.dali_resume.specs.Batches.{misplaced, records_of, verdict_over}

@@ -12,12 +12,11 @@
 --     FitIsFound               such files are found, also those that were put together by hand
 --     OneAnswer                a disk has one answer: its log has no batches, or it is bad at one place of one file, or this is found
 use Rattle.std.specs.Prelude.{◌≡◌, ◌⊎◌, ◌<◌, ◌≤◌, ◌+◌, ◌^◌, ℕ, List, length}
-use Rattle.std.specs.List.{AllByRecursion}
 use Rattle.dali_geometry.specs.Sizes.{Sizes}
 use Rattle.dali_att.specs.Table.{Table}
 use Rattle.dali_record.specs.declared.operations.Pending.{Pending}
 use Rattle.dali_record.specs.declared.records.Record.{Record}
-use Rattle.dali_record.specs.Blocks.{AreWords}
+use Rattle.dali_record.specs.Blocks.{AllAreWords}
 use Rattle.dali_record.specs.Epochs.{last_epoch}
 use Rattle.dali_record.specs.Files.{Files}
 use Rattle.dali_record.specs.Legal.{sizes_of}
@@ -52,7 +51,7 @@ pub record IsSpelledBy (fs : Disk) (s : Sizes) (c : ℕ) (h : Header) (image : L
 abbrev pub WhatOpensIsSpelled : Type 0
 WhatOpensIsSpelled =
     (fs : Disk) (s : Sizes) (c : ℕ) (h : Header) (image : List (List ℕ)) (m : Table Pending) (r : Reading) (B : List (List Record)) (end : ℕ)
-    → IsOpened fs s c h image m r → LogOf fs.log B end → AllByRecursion AreWords image
+    → IsOpened fs s c h image m r → LogOf fs.log B end → AllAreWords image
     → (F : Files) × IsSpelledBy fs s c h image m B F
 
 pub record AnswersOnce (fs : Disk) : Type 0 where
@@ -78,7 +77,7 @@ pub record IsOneOpening (s z : Sizes) (c : ℕ) (h : Header) (image : List (List
 abbrev pub OpensOnce : Type 0
 OpensOnce =
     (fs : Disk) (s : Sizes) (c : ℕ) (h : Header) (image : List (List ℕ)) (m : Table Pending) (r : Reading) → IsOpened fs s c h image m r
-    → AllByRecursion AreWords image
+    → AllAreWords image
     → ((F : Files) × BeginsAt fs s F)
     × ((z : Sizes) (F : Files) → BeginsAt fs z F → IsOneOpening s z c h image m F)
 

@@ -14,11 +14,10 @@
 --     IsFresh                  a core that was just made: no operation, transaction or lock, and a vault that runs
 --     BeginsRun                a run begins with it, over the log of these files or that with the record of the restart
 use Rattle.std.specs.Prelude.{◌≡◌, ◌⊎◌, ◌≤◌, ◌<◌, ℕ, Bool, List, [], ◌∷◌, Option, Some, IfSome, is_some, if◌then◌else◌, nat_lt, drop, length, map}
-use Rattle.std.specs.List.{AllByRecursion}
 use Rattle.dali_geometry.specs.Sizes.{Sizes}
 use Rattle.dali_record.specs.declared.records.Record.{Record}
 use Rattle.dali_record.specs.declared.records.Record.TheVariants.{Restarted}
-use Rattle.dali_record.specs.Blocks.{AreWords}
+use Rattle.dali_record.specs.Blocks.{AllAreWords}
 use Rattle.dali_record.specs.Damage.{rolled_list, deleted_list}
 use Rattle.dali_record.specs.Epochs.{recovered_epoch}
 use Rattle.dali_record.specs.Files.{Files}
@@ -63,7 +62,7 @@ pub record BeginsAt (fs : Disk) (s : Sizes) (F : Files) : Type 0 where
   pub reader : Reading
   pub opened : IsOpened fs s F.gates (header_of s (head_of F)) F.image (table_of F.table) reader
   pub rows : CanBeTable s F.next F.table
-  pub words : AllByRecursion AreWords F.image
+  pub words : AllAreWords F.image
 
 pub record IsReadAs (fs : Disk) (o : Outcome) : Type 0 where
   pub sizes : Sizes

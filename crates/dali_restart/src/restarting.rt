@@ -1,7 +1,7 @@
 //! A restart: what a log says of its records is recovered, written, and handed out as a core.
 ghost use Rattle.std.specs.Prelude.{◌≡◌, ◌≤◌, ◌<◌, ◌^◌, ◌⊎◌, ℕ, IfOk, IfErr, OnErr, IfSome, IsErrOf, MatchResult, is_some, Some, None, []};
 ghost use Rattle.std.specs.List.{AllByRecursion};
-ghost use Rattle.dali_record.specs.Blocks.{AreWords};
+ghost use Rattle.dali_record.specs.Blocks.{AreWords, AllAreWords};
 ghost use Rattle.dali_store.specs.declared.store.FileName.{FileName as Name};
 ghost use Rattle.dali_store.specs.Calls.{PassesFewer};
 ghost use Rattle.dali_store.specs.Faults.{Rose};
@@ -91,7 +91,7 @@ fn tell_words(words: &[u64; 64])
 
 // Those of all regions.
 fn tell_all(regions: &[[u64; 64]])
-    ensures { AllByRecursion AreWords regions.now }
+    ensures { AllAreWords regions.now }
 {
     for words in regions {
         tell_words(words);

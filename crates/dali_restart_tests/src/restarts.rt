@@ -8,15 +8,15 @@ use std::cell::Cell;
 
 mod outside;
 mod rules;
-mod stores;
+pub(crate) mod stores;
 mod worked;
 
 use outside::OUTSIDE;
 use rules::{IMAGES, LOGS};
 use stores::{begun_in, is_left, parted, restarted, store_of};
 use worked::{
-    CHAIN, CHAIN_LEFT, EPOCHS, EPOCHS_LEFT, FORMATTED, REMOVAL, REMOVAL_LEFT, STOPPED,
-    STOPPED_LEFT, UNDONE, UNDONE_LEFT, UNFINISHED, UNFINISHED_LEFT,
+    CHAIN, CHAIN_LEFT, EPOCHS, EPOCHS_LEFT, FORMATTED, REMOVAL, REMOVAL_LEFT, STOPPED, UNDONE,
+    UNDONE_LEFT, UNFINISHED, UNFINISHED_LEFT,
 };
 
 // What a restart says of each worked store.
@@ -32,27 +32,21 @@ const EPOCHS_TOLD: &str = "rolled back 5; deleted 4; 4 abc; 5 xyz; records 2";
 
 const FORMATTED_TOLD: &str = "rolled back none; deleted none; records 0";
 
-// What a restart says of the store in a line, and what it is to say.
-fn told_of_line<'a>(alloc: Global, line: &'a str) -> Result<(String, &'a str)> {
-    let (files, told) = parted(parted(line, ": ").1, " = ");
-    let (_, found) = restarted(alloc, store_of(alloc, files, &[])?)?;
-    Ok((found, told))
+// The store of a line, with what a restart says of it.
+fn told_of_line(alloc: Global, line: &str) -> Result<String> {
+    let (named, _) = parted(line, " = ");
+    let (_, files) = parted(named, ": ");
+    let (_, told) = restarted(alloc, store_of(alloc, files, &[])?)?;
+    Ok(format!(in alloc; "{named} = {told}")?)
 }
 
 #[test]
-fn stores_from_outside_are_restarted(rt: HostRuntime) -> Result<()> {
-    for line in OUTSIDE.lines() {
-        let (found, told) = told_of_line(rt.alloc(), line)?;
-        assert_eq!(rt; found.as_str(), told, "{line}");
-    }
-    Ok(())
-}
-
-#[test]
-fn files_are_refused_at_their_first_bad_place(rt: HostRuntime) -> Result<()> {
-    for line in LOGS.lines().chain(IMAGES.lines()) {
-        let (found, told) = told_of_line(rt.alloc(), line)?;
-        assert_eq!(rt; found.as_str(), told, "{line}");
+fn stores_are_restarted_or_refused_at_their_first_bad_place(rt: HostRuntime) -> Result<()> {
+    for cases in [OUTSIDE, LOGS, IMAGES] {
+        for line in cases.lines() {
+            let found = told_of_line(rt.alloc(), line)?;
+            assert_eq!(rt; found.as_str(), line);
+        }
     }
     Ok(())
 }
@@ -101,68 +95,66 @@ fn counted<V: Store + Drop>(
     Ok((told, (readings.get(), early.get(), writes.get())))
 }
 
-// What a restart of the store of a text says and counts from a place on, and what one of the store that it leaves does from
-// another.
-fn counted_twice(
+// What a restart of the store of a text says and counts from a place on; whether it leaves these files behind this end of the
+// log; and what a restart of these says and counts from there on.
+fn restarted_twice(
     alloc: Global,
     text: &str,
     place: u64,
-    end: u64,
-) -> Result<((String, (u64, u64, u64)), (String, (u64, u64, u64)))> {
-    let first = counted(alloc, store_of(alloc, text, &[])?, place)?;
+    end: usize,
+    left: &str,
+) -> Result<(String, (u64, u64, u64), bool, String, (u64, u64, u64))> {
+    let (first, counts) = counted(alloc, store_of(alloc, text, &[])?, place)?;
     let (store, _) = restarted(alloc, store_of(alloc, text, &[])?)?;
-    Ok((first, counted(alloc, store, end)?))
+    let all_left = is_left(alloc, &store, text, end, left)?;
+    let (second, again) = counted(alloc, store, end as u64)?;
+    Ok((first, counts, all_left, second, again))
 }
 
-// An epoch with a failed audit is read once more. The record takes two writes, the image three and the anchor two. What was
-// restarted tells its lists again.
+// An epoch with a failed audit is read once more. The record takes two writes, the image three and the anchor two. What is left
+// is the record of the restart, unless one ends the log, and an image that stands before it. What was restarted tells its lists
+// again.
 #[test]
-fn the_log_is_read_from_the_image_on(rt: HostRuntime) -> Result<()> {
-    for (text, told, place, counts, end) in [
-        (CHAIN, CHAIN_TOLD, 628, (2, 0, 7), 1522),
-        (UNDONE, UNDONE_TOLD, 628, (2, 0, 7), 1218),
-        (UNFINISHED, UNFINISHED_TOLD, 601, (1, 0, 7), 988),
-        (REMOVAL, REMOVAL_TOLD, 15, (1, 0, 7), 1008),
-        (EPOCHS, EPOCHS_TOLD, 15, (3, 0, 7), 1410),
-        (STOPPED, EPOCHS_TOLD, 15, (3, 0, 5), 1410),
-        (FORMATTED, FORMATTED_TOLD, 15, (1, 0, 0), 15),
+fn a_restart_reads_from_the_image_on_and_leaves_its_own(rt: HostRuntime) -> Result<()> {
+    for (text, told, place, counts, end, left) in [
+        (CHAIN, CHAIN_TOLD, 628, (2, 0, 7), 1522, CHAIN_LEFT),
+        (UNDONE, UNDONE_TOLD, 628, (2, 0, 7), 1218, UNDONE_LEFT),
+        (
+            UNFINISHED,
+            UNFINISHED_TOLD,
+            601,
+            (1, 0, 7),
+            988,
+            UNFINISHED_LEFT,
+        ),
+        (REMOVAL, REMOVAL_TOLD, 15, (1, 0, 7), 1008, REMOVAL_LEFT),
+        (EPOCHS, EPOCHS_TOLD, 15, (3, 0, 7), 1410, EPOCHS_LEFT),
+        (STOPPED, EPOCHS_TOLD, 15, (3, 0, 5), 1410, EPOCHS_LEFT),
+        (FORMATTED, FORMATTED_TOLD, 15, (1, 0, 0), 15, "00///00"),
     ] {
-        let (first, second) = counted_twice(rt.alloc(), text, place, end)?;
-        assert_eq!(rt; (first.0.as_str(), first.1), (told, counts));
-        assert_eq!(rt; (second.0.as_str(), second.1), (told, (1, 0, 0)));
+        let (first, found, all_left, second, again) = restarted_twice(
+            rt.alloc(),
+            text,
+            place,
+            end,
+            left,
+        )?;
+        assert_eq!(rt;
+            (first.as_str(), found, all_left, second.as_str(), again),
+            (told, counts, true, told, (1, 0, 0)),
+            "{end}"
+        );
     }
     Ok(())
 }
 
-// Whether a restart of the store of a text leaves these files.
-fn leaves(alloc: Global, text: &str, end: usize, left: &str) -> Result<bool> {
-    let (store, _) = restarted(alloc, store_of(alloc, text, &[])?)?;
-    is_left(alloc, &store, text, end, left)
-}
-
-// The record of the restart, unless one ends the log, and an image that stands before it.
-#[test]
-fn a_restart_leaves_its_record_and_its_image(rt: HostRuntime) -> Result<()> {
-    for (text, end, left) in [
-        (CHAIN, 1522, CHAIN_LEFT),
-        (UNDONE, 1218, UNDONE_LEFT),
-        (UNFINISHED, 988, UNFINISHED_LEFT),
-        (REMOVAL, 1008, REMOVAL_LEFT),
-        (EPOCHS, 1410, EPOCHS_LEFT),
-        (STOPPED, 1410, STOPPED_LEFT),
-    ] {
-        assert!(rt; leaves(rt.alloc(), text, end, left)?, "{end}");
-    }
-    Ok(())
-}
-
-// The number of a transaction that begins behind a restart, and what the next restart says.
-fn begun_behind(alloc: Global, text: &str) -> Result<Option<(u64, String)>> {
+// The number of a transaction that begins behind a restart, 0 for none, and what the next restart says.
+fn begun_behind(alloc: Global, text: &str) -> Result<(u64, String)> {
     let Some((txn, store)) = begun_in(alloc, store_of(alloc, text, &[])?)? else {
-        return Ok(None);
+        return Ok((0, String::new(alloc)));
     };
     let (_, told) = restarted(alloc, store)?;
-    Ok(Some((txn, told)))
+    Ok((txn, told))
 }
 
 // The log goes on at its end with the next number, and what was told before is told no more.
@@ -197,10 +189,8 @@ fn a_transaction_begins_behind_a_restart(rt: HostRuntime) -> Result<()> {
         ),
         (FORMATTED, 1, "rolled back 1; deleted none; records 0"),
     ] {
-        match begun_behind(rt.alloc(), text)? {
-            Some((txn, found)) => assert_eq!(rt; (txn, found.as_str()), (next, told)),
-            None => assert!(rt; false, "{next}"),
-        }
+        let (txn, found) = begun_behind(rt.alloc(), text)?;
+        assert_eq!(rt; (txn, found.as_str()), (next, told));
     }
     Ok(())
 }
@@ -225,38 +215,6 @@ const CALLS: u64 = 100;
 
 const FAULT: &str = "store fault";
 
-// How many calls a restart makes, if it says the same behind stops at each of them.
-fn stops(alloc: Global, text: &str, told: &str, choice: u32) -> Result<Option<u64>> {
-    for passes in 0..CALLS {
-        let (stopped, last) = behind_stops(alloc, text, passes, choice)?;
-        if last.as_str() != told {
-            return Ok(None);
-        }
-        if !stopped {
-            return Ok(Some(passes));
-        }
-    }
-    Ok(None)
-}
-
-#[test]
-fn a_stop_at_any_call_changes_nothing(rt: HostRuntime) -> Result<()> {
-    for (text, told, choice) in [
-        (CHAIN, CHAIN_TOLD, 0),
-        (CHAIN, CHAIN_TOLD, 1),
-        (CHAIN, CHAIN_TOLD, 2),
-        (CHAIN, CHAIN_TOLD, 3),
-        (CHAIN, CHAIN_TOLD, 4),
-        (UNFINISHED, UNFINISHED_TOLD, 2),
-        (STOPPED, EPOCHS_TOLD, 3),
-        (EPOCHS, EPOCHS_TOLD, 4),
-    ] {
-        let calls = stops(rt.alloc(), text, told, choice)?;
-        assert!(rt; calls > Some(20), "{choice}: {calls:?}");
-    }
-    Ok(())
-}
-
 // Whether a restart fails whose call with this number does, and what is said at the end: by it, or by one of the store that it
 // hands back.
 fn behind_a_fault(alloc: Global, text: &str, number: u64) -> Result<(bool, String)> {
@@ -268,29 +226,41 @@ fn behind_a_fault(alloc: Global, text: &str, number: u64) -> Result<(bool, Strin
     Ok((true, last))
 }
 
-// How many calls a restart makes, if it says the same whichever of them fails.
-fn faults(alloc: Global, text: &str, told: &str) -> Result<Option<u64>> {
+// How many calls a restart makes, if it says the same behind a stop with this crash at each of them; or, with no crash,
+// whichever of them fails.
+fn calls_of(alloc: Global, text: &str, told: &str, choice: Option<u32>) -> Option<u64> {
     for number in 0..CALLS {
-        let (failed, last) = behind_a_fault(alloc, text, number)?;
+        let (failed, last) = match choice {
+            Some(choice) => behind_stops(alloc, text, number, choice).ok()?,
+            None => behind_a_fault(alloc, text, number).ok()?,
+        };
         if last.as_str() != told {
-            return Ok(None);
+            return None;
         }
         if !failed {
-            return Ok(Some(number));
+            return Some(number);
         }
     }
-    Ok(None)
+    None
 }
 
 #[test]
-fn a_call_that_fails_changes_nothing(rt: HostRuntime) -> Result<()> {
-    for (text, told) in [
-        (CHAIN, CHAIN_TOLD),
-        (UNFINISHED, UNFINISHED_TOLD),
-        (STOPPED, EPOCHS_TOLD),
+fn a_stop_or_a_fault_at_any_call_changes_nothing(rt: HostRuntime) -> Result<()> {
+    for (text, told, choice) in [
+        (CHAIN, CHAIN_TOLD, Some(0)),
+        (CHAIN, CHAIN_TOLD, Some(1)),
+        (CHAIN, CHAIN_TOLD, Some(2)),
+        (CHAIN, CHAIN_TOLD, Some(3)),
+        (CHAIN, CHAIN_TOLD, Some(4)),
+        (UNFINISHED, UNFINISHED_TOLD, Some(2)),
+        (STOPPED, EPOCHS_TOLD, Some(3)),
+        (EPOCHS, EPOCHS_TOLD, Some(4)),
+        (CHAIN, CHAIN_TOLD, None),
+        (UNFINISHED, UNFINISHED_TOLD, None),
+        (STOPPED, EPOCHS_TOLD, None),
     ] {
-        let calls = faults(rt.alloc(), text, told)?;
-        assert!(rt; calls > Some(20), "{calls:?}");
+        let calls = calls_of(rt.alloc(), text, told, choice);
+        assert!(rt; calls > Some(20), "{choice:?}: {calls:?}");
     }
     Ok(())
 }

@@ -1,5 +1,6 @@
 //! What no clause says: that a database is made and found with ample memory, what is left where a call fails, and which
 //! bytes of the log are read.
+use crate::restarts::stores::store_of;
 use dali_geometry::Geometry;
 use dali_memstore::{CallKind, Fuse, Hook, MemoryStore, Watch};
 use dali_restart::{RestartError, format, open};
@@ -9,31 +10,6 @@ use std::cell::Cell;
 use std::test::Fail;
 
 const LIMIT: u64 = 1000;
-
-// The log of a database of one index region and one heap region, with an audit's begin behind its first batch.
-const LOG: [u8; 22] = [
-    0xa5, 0, 0, 0, 10, 1, 1, 0, 0, 0, 1, 0, 0, 0, 1, //
-    0xa5, 0, 0, 0, 1, 8, //
-    0,
-];
-
-// Checkpoint 2 of it, at place 21 behind 2 records of 11 bytes; next transaction 9; a table without a row.
-const HEADER: [u8; 64] = [
-    68, 65, 76, 73, 73, 77, 71, 49, 0, 0, 0, 1, 0, 0, 0, 1, //
-    0, 0, 0, 0, 0, 0, 0, 2, 0, 0, 0, 0, 0, 0, 0, 21, //
-    0, 0, 0, 0, 0, 0, 0, 2, 0, 0, 0, 0, 0, 0, 0, 11, //
-    0, 0, 0, 0, 0, 0, 0, 9, 0, 0, 0, 0, 0, 0, 0, 4, //
-];
-
-const TABLE: [u8; 4] = [0, 0, 0, 0];
-
-// A store with this log and this anchor, and no image.
-fn store_of(alloc: Global, log: &[u8], anchor: &[u8]) -> Option<MemoryStore> {
-    let log = Vec::from_slice(alloc, log).ok()?;
-    let anchor = Vec::from_slice(alloc, anchor).ok()?;
-    let files = [log, Vec::new(alloc), Vec::new(alloc), anchor];
-    Some(MemoryStore::with(files, Vec::new(alloc)))
-}
 
 // A format of one index region and one heap region: the store, and why it was refused.
 fn format_one<V: Store + Drop>(alloc: Global, store: V) -> Option<(V, Option<RestartError>)> {
@@ -91,8 +67,8 @@ fn each_call_fails_in_turn(rt: HostRuntime) -> Result<(), Fail> {
 }
 
 // Whether a format over this log leaves a log of its first batch and an anchor of one closed gate, and why it was refused.
-fn format_over(alloc: Global, log: &[u8]) -> Option<(bool, bool, Option<RestartError>)> {
-    let (store, error) = format_one(alloc, store_of(alloc, log, &[])?)?;
+fn format_over(alloc: Global, log: &str) -> Option<(bool, bool, Option<RestartError>)> {
+    let (store, error) = format_one(alloc, store_of(alloc, log, &[]).ok()?)?;
     Some((
         store.file(FileName::Log)
             == [0xa5, 0, 0, 0, 10, 1, 1, 0, 0, 0, 1, 0, 0, 0, 1, 0].as_slice(),
@@ -105,22 +81,52 @@ fn format_over(alloc: Global, log: &[u8]) -> Option<(bool, bool, Option<RestartE
 #[test]
 fn one_open_gate_is_formatted_over(rt: HostRuntime) -> Result<(), Fail> {
     let alloc = rt.alloc();
-    assert_eq!(rt; format_over(alloc, &[0xa5]), Some((true, true, None)));
     assert_eq!(rt;
-        format_over(alloc, &[0xa5, 0]),
-        Some((false, false, Some(RestartError::Formatted)))
+        (format_over(alloc, "a5"), format_over(alloc, "a500")),
+        (
+            Some((true, true, None)),
+            Some((false, false, Some(RestartError::Formatted)))
+        )
     );
     Ok(())
 }
 
-// What is found over this log and this anchor: the current number, the image's place, and how many regions there are.
-fn opened(
-    alloc: Global,
-    log: &[u8],
-    anchor: &[u8],
-) -> Option<Result<(u64, u64, usize), RestartError>> {
-    Some(answer_of(alloc, &mut store_of(alloc, log, anchor)?))
-}
+// Checkpoint 2 of a database of one index region and one heap region, with an audit's begin behind its first batch: at place 21
+// behind 2 records of 11 bytes; next transaction 9; words of 7, and a table without a row.
+const CHECKPOINTED: &str = "\
+a50000000a01010000000100000001a5000000010800
+/
+/
+44414c49494d47310000000100000001 *7 02 *7 15 *7 02 *7 0b *7 09 *7 04 *128x0000000000000007 *4
+/
+a5a500
+";
+
+// In each line a name, the files of a store, and what is found there: the current number, the image's place, and how many
+// regions there are; or why not. The log isn't looked at between its first batch and the image's place, and the header before
+// the table.
+const FILES: &str = "\
+an audit begins: a50000000a01010000000100000001a5000000010800///00 = Ok((0, 15, 2))
+a first batch alone: a50000000a01010000000100000001///00 = Ok((0, 15, 2))
+an empty log: ///00 = Err(Unformatted)
+an open gate: a5///00 = Err(Unformatted)
+a closed first gate: 00a5/// = Err(Unformatted)
+a first batch cut short: a50000000a010100000001000000/// = Err(BadStore { file: Log, at: 1 })
+a length cut short: a5000000/// = Err(BadStore { file: Log, at: 1 })
+an empty anchor: a50000000a01010000000100000001/// = Err(BadStore { file: Anchor, at: 0 })
+an anchor of open gates: a50000000a01010000000100000001///a5a5 = Err(BadStore { file: Anchor, at: 2 })
+no image A: a50000000a01010000000100000001///a500 = Err(BadStore { file: ImageA, at: 0 })
+no image B: a50000000a01010000000100000001///a5a500 = Err(BadStore { file: ImageB, at: 0 })
+a checkpoint: a50000000a01010000000100000001a5000000010800//44414c49494d47310000000100000001 *7 02 *7 15 *7 02 *7 0b *7 09 *7 04 *128x0000000000000007 *4/a5a500 = Ok((2, 21, 2))
+a batch of no gate before it: a50000000a01010000000100000001 *4 630800//44414c49494d47310000000100000001 *7 02 *7 15 *7 02 *7 0b *7 09 *7 04 *128x0000000000000007 *4/a5a500 = Ok((2, 21, 2))
+a bad first batch: a50000000a09010000000100000001a5000000010800//44414c49494d47310000000100000001 *7 02 *7 15 *7 02 *7 0b000001 *4 09 *7 04 *128x0000000000000007 00000001/a5a500 = Err(BadStore { file: Log, at: 5 })
+another number and no table: a50000000a01010000000100000001a5000000010800//44414c49494d47310000000100000001 *7 03 *7 15 *7 02 *7 0b *7 09 *7 04 *128x0000000000000007/a5a500 = Err(BadStore { file: ImageB, at: 16 })
+a place at the end of the file: a50000000a01010000000100000001a50000000108//44414c49494d47310000000100000001 *7 02 *7 15 *7 02 *7 0b *7 09 *7 04 *128x0000000000000007 00000001/a5a500 = Err(BadStore { file: ImageB, at: 24 })
+a next number of 2^40 and a cut table: a50000000a01010000000100000001a5000000010800//44414c49494d47310000000100000001 *7 02 *7 15 *7 02 *7 0b000001 *4 09 *7 04 *128x0000000000000007 00000001/a5a500 = Err(BadStore { file: ImageB, at: 48 })
+no table: a50000000a01010000000100000001a5000000010800//44414c49494d47310000000100000001 *7 02 *7 15 *7 02 *7 0b *7 09 *7 04 *128x0000000000000007/a5a500 = Err(BadStore { file: ImageB, at: 56 })
+a table cut short: a50000000a01010000000100000001a5000000010800//44414c49494d47310000000100000001 *7 02 *7 15 *7 02 *7 0b *7 09 *7 04 *128x0000000000000007 00000001/a5a500 = Err(BadStore { file: ImageB, at: 1092 })
+a batch of no gate and a table cut short: a50000000a01010000000100000001 *4 630800//44414c49494d47310000000100000001 *7 02 *7 15 *7 02 *7 0b *7 09 *7 04 *128x0000000000000007 00000001/a5a500 = Err(BadStore { file: ImageB, at: 1092 })
+";
 
 fn answer_of<V: Store>(alloc: Global, store: &mut V) -> Result<(u64, u64, usize), RestartError> {
     match open(alloc, store) {
@@ -129,30 +135,20 @@ fn answer_of<V: Store>(alloc: Global, store: &mut V) -> Result<(u64, u64, usize)
     }
 }
 
-fn bad(file: FileName, at: u64) -> Option<Result<(u64, u64, usize), RestartError>> {
-    Some(Err(RestartError::BadStore { file, at }))
+// The store of a line, with what `open` answers.
+fn opened(alloc: Global, line: &str) -> Option<String> {
+    let (named, _) = line.split_once(" = ")?;
+    let (_, files) = named.split_once(": ")?;
+    let mut store = store_of(alloc, files, &[]).ok()?;
+    let answer = answer_of(alloc, &mut store);
+    format!(in alloc; "{named} = {answer:?}").ok()
 }
 
 #[test]
-fn a_store_is_refused_at_its_first_bad_place(rt: HostRuntime) -> Result<(), Fail> {
-    let alloc = rt.alloc();
-    let fresh = Some(Ok((0, 15, 2)));
-    let unformatted = Some(Err(RestartError::Unformatted));
-    let first = &LOG[..15];
-    for (log, anchor, answer) in [
-        (&LOG[..], &[0][..], fresh),
-        (first, &[0], fresh),
-        (&[], &[0], unformatted),
-        (&[0xa5], &[0], unformatted),
-        (&[0, 0xa5], &[], unformatted),
-        (&LOG[..14], &[], bad(FileName::Log, 1)),
-        (&LOG[..4], &[], bad(FileName::Log, 1)),
-        (first, &[], bad(FileName::Anchor, 0)),
-        (first, &[0xa5, 0xa5], bad(FileName::Anchor, 2)),
-        (first, &[0xa5, 0], bad(FileName::ImageA, 0)),
-        (first, &[0xa5, 0xa5, 0], bad(FileName::ImageB, 0)),
-    ] {
-        assert_eq!(rt; opened(alloc, log, anchor), answer);
+fn a_store_is_opened_or_refused_at_its_first_bad_place(rt: HostRuntime) -> Result<(), Fail> {
+    for line in FILES.lines() {
+        let found = opened(rt.alloc(), line).ok_or("no answer")?;
+        assert_eq!(rt; found.as_str(), line);
     }
     Ok(())
 }
@@ -171,61 +167,7 @@ impl<'a> Hook for Furthest<'a> {
     }
 }
 
-// The store of the checkpoint, with this log, and this header and table of its image.
-fn checkpointed(alloc: Global, log: &[u8], header: &[u8], table: &[u8]) -> Option<MemoryStore> {
-    let mut image = Vec::from_slice(alloc, header).ok()?;
-    for _ in 0..128 {
-        image.extend_from_slice(&[0, 0, 0, 0, 0, 0, 0, 7]).ok()?;
-    }
-    image.extend_from_slice(table).ok()?;
-    let log = Vec::from_slice(alloc, log).ok()?;
-    let anchor = Vec::from_slice(alloc, &[0xa5, 0xa5, 0]).ok()?;
-    Some(MemoryStore::with([log, Vec::new(alloc), image, anchor], Vec::new(alloc)))
-}
-
-// What `open` answers there.
-fn opened_behind(
-    alloc: Global,
-    log: &[u8],
-    header: &[u8],
-    table: &[u8],
-) -> Option<Result<(u64, u64, usize), RestartError>> {
-    Some(answer_of(alloc, &mut checkpointed(alloc, log, header, table)?))
-}
-
-// The log isn't looked at between its first batch and the image's place, and the header before the table.
-#[test]
-fn a_checkpoint_is_refused_at_its_first_bad_place(rt: HostRuntime) -> Result<(), Fail> {
-    let alloc = rt.alloc();
-    let whole = Some(Ok((2, 21, 2)));
-    let mut damaged = LOG;
-    damaged[15] = 0;
-    damaged[19] = 99;
-    let mut torn = LOG;
-    torn[5] = 9;
-    let mut next = HEADER;
-    next[50] = 1;
-    let mut number = HEADER;
-    number[23] = 3;
-    let none = &TABLE[..0];
-    let cut = &[0, 0, 0, 1][..];
-    for (log, header, table, answer) in [
-        (&LOG[..], &HEADER, &TABLE[..], whole),
-        (&damaged, &HEADER, &TABLE, whole),
-        (&torn, &next, cut, bad(FileName::Log, 5)),
-        (&LOG, &number, none, bad(FileName::ImageB, 16)),
-        (&LOG[..21], &HEADER, cut, bad(FileName::ImageB, 24)),
-        (&LOG, &next, cut, bad(FileName::ImageB, 48)),
-        (&LOG, &HEADER, none, bad(FileName::ImageB, 56)),
-        (&LOG, &HEADER, cut, bad(FileName::ImageB, 1092)),
-        (&damaged, &HEADER, cut, bad(FileName::ImageB, 1092)),
-    ] {
-        assert_eq!(rt; opened_behind(alloc, log, header, table), answer);
-    }
-    Ok(())
-}
-
-// What is found there: the image's place and next number, a word, and how many transactions.
+// What is found in a store: the image's place and next number, a word, and how many transactions.
 fn found<V: Store>(alloc: Global, store: &mut V) -> Option<(u64, u64, u64, usize)> {
     let Ok(found) = open(alloc, store) else {
         return None;
@@ -239,11 +181,11 @@ fn found<V: Store>(alloc: Global, store: &mut V) -> Option<(u64, u64, u64, usize
     ))
 }
 
-// The same, and how far the log was read.
+// What is found behind the checkpoint, and how far the log was read.
 fn found_and_read(alloc: Global) -> Option<((u64, u64, u64, usize), u64)> {
     let end = Cell::new(0);
     let mut watch = Watch::new(
-        checkpointed(alloc, &LOG, &HEADER, &TABLE)?,
+        store_of(alloc, CHECKPOINTED, &[]).ok()?,
         Furthest { end: &end },
     );
     let found = found(alloc, &mut watch)?;

@@ -13,9 +13,9 @@ use Rattle.dali_record.specs.declared.records.Record.TheVariants.{Format, Begin,
 use Rattle.dali_record.specs.Epochs.{Epoch, Cut, cut, cut_step, last_epoch, AllEpochs, separates, next_number, clean_step, clean_place, failing_step, failing}
 use Rattle.dali_record.specs.Damage.{has}
 use Rattle.dali_record.specs.Legal.{Rules, rules_start, passes, restarts, runs, rules_behind, rules_first, rules_step, rules_next, rules_state}
-use Rattle.dali_record.proofs.Ends.{by_push, get_push_cases}
+use Rattle.dali_record.proofs.Ends.{by_push}
 use Rattle.dali_record.proofs.Pushes.{rules_state_push, cut_push}
-use Rattle.dali_record.proofs.EpochRules.{format_first, rules_before, kept_if_some, some_rules}
+use Rattle.dali_record.proofs.EpochRules.{format_first, rules_before, kept_if_some, some_rules, within_push}
 use Rattle.dali_record.proofs.Stages.{IsWithin, IsWithin-front}
 use Rattle.dali_resume.proofs.Standing.{IsWithin-parts}
 
@@ -245,9 +245,6 @@ damage_is s f n P R began within size low = (clean_is, sym (fold-append failing_
 -- ---- each epoch of a log that the rules allow begins so
 Now : Sizes → List Record → Cut → Type 0
 Now s L c = AllByRecursion (Began s) c.closed × ((g : Rules) × (g.count ≡ c.now.first) × (g.audits ≡ []) × (g.failed ≡ false) × (rules_state s L ≡ fold (rules_next s) (Some g) c.now.records)) × IsWithin c.now.records × (next_number c.now ≡ length L)
-
-pub within_push : (E : List Record) (r : Record) → IsWithin E → separates r ≡ false → IsWithin (E ++ r ∷ [])
-within_push E r h e i q f = ⊎_elim (λ old. h i q old.1) (λ new. subst (λ z. separates z ≡ false) new.1 e) (get_push_cases E r i q f)
 
 within_none : IsWithin []
 within_none i r e = absurd (cc)

@@ -14,7 +14,7 @@ use Rattle.dali_lists.proofs.Numbers.{eqb-suc}
 use Rattle.dali_lists.proofs.Options.{some_of}
 use Rattle.dali_geometry.specs.Sizes.{Sizes}
 use Rattle.dali_record.specs.Damage.{has}
-use Rattle.dali_record.specs.Epochs.{Cut, Epoch, cut, epochs, last_epoch, separates}
+use Rattle.dali_record.specs.Epochs.{Epoch, cut, epochs, last_epoch, separates}
 use Rattle.dali_record.specs.Files.{draws, is_restarted, next_after, table_before}
 use Rattle.dali_record.specs.Legal.{Active, Committed, IsLegalFor, Over, Rules, TxnState, Unbegun, is_none_left, on_kind, rules_state}
 use Rattle.dali_record.specs.Log.{begun, committed, ended, last_of, undo_step, undos_of}
@@ -23,7 +23,7 @@ use Rattle.dali_record.specs.declared.records.Record.TheVariants.{AuditBegin, Au
 use Rattle.dali_record.proofs.Batches.{last_push, number_is_length}
 use Rattle.dali_record.proofs.Ends.{by_push}
 use Rattle.dali_record.proofs.EpochRules.{AllEpochs-contains, StandsThrough, stands_in_epochs}
-use Rattle.dali_record.proofs.Pushes.{cut_push, undos_of_push}
+use Rattle.dali_record.proofs.Pushes.{undos_of_push, none_now}
 use Rattle.dali_record.proofs.Stages.{IsStart, has_committed_push, stage, state_from}
 use Rattle.dali_record.proofs.Tracks.{Tracks}
 use Rattle.dali_history.proofs.Prefixes.{IsLegalFor-front}
@@ -353,11 +353,6 @@ number_same s = by_push (λ Y. IsLegalFor s Y → number_next Y ≡ next_after Y
 
 next_rises : (Y : List Record) (r : Record) → next_after Y ≤ next_after (Y ++ r ∷ [])
 next_rises Y r = let w : length (filter_map draws (Y ++ r ∷ [])) ≡ length (filter_map draws Y ++ filter_map draws (r ∷ [])) = ap length (filter_map-append draws Y (r ∷ [])) in omega (arith, w, length-append (filter_map draws Y) (filter_map draws (r ∷ [])))
-
-none_now : (Y : List Record) (r : Record) → separates r ≡ true → (last_epoch (Y ++ r ∷ [])).records ≡ []
-none_now Y (Format i j) e = ap (λ (c : Cut). c.now.records) (cut_push Y (Format i j))
-none_now Y (Restarted rs ds) e = ap (λ (c : Cut). c.now.records) (cut_push Y (Restarted rs ds))
-none_now Y _ e = absurd (cc)
 
 fresh_last : (s : Sizes) (P : List Record) → IsLegalFor s P → (t : ℕ) → has (begun (last_epoch P).records) t ≡ true → t < next_after P
 fresh_last s = by_push (λ Y. IsLegalFor s Y → (t : ℕ) → has (begun (last_epoch Y).records) t ≡ true → t < next_after Y) (λ legal t h. absurd (cc)) (λ Y r ih legal t h. by_kind Y r (ih (IsLegalFor-front s Y (r ∷ []) legal)) legal t (separates r) refl h)

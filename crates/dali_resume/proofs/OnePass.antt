@@ -70,6 +70,10 @@ scan_plain : (d : Damage) → d.failing ≡ [] → (rows : List Row) (R : List R
 scan_plain d sound rows = by_push (λ R. IsPlain rows R (scan d rows R)) (record { words = λ q. refl; items = λ k. refl; corrupt = λ t. refl; undos = λ t. refl; kept = refl })
     (λ R r ih. subst (IsPlain rows (R ++ r ∷ [])) (sym (fold_push (scan_step d) (scan_start d.first rows) R r)) (plain_step d sound rows R (scan d rows R) ih r))
 
+-- so no record is left out behind any others
+pub nothing_left_out : (d : Damage) → d.failing ≡ [] → (rows : List Row) (R : List Record) (r : Record) → is_left_out d (scan d rows R) r ≡ false
+nothing_left_out d sound rows R r = stays d sound rows R (scan d rows R) (scan_plain d sound rows R) r
+
 filter_none : (p : ℕ → Bool) (xs : List ℕ) → ((t : ℕ) → p t ≡ false) → filter p xs ≡ []
 filter_none p [] h = refl
 filter_none p (x ∷ xs) h = rw (h x) (filter_none p xs h)

@@ -82,15 +82,6 @@ finish s n g h x (Format i k ∷ []) rel end few some format lists =
     let w = format i k refl in
     let zero_is : (g.number == 0) ≡ true = eq-eqb g.number 0 w.0 in
     rw (zero_is, w.1) refl
-finish s n g h x (Begin t ∷ []) rel end few some format lists = absurd (cc)
-finish s n g h x (Forward t b ∷ []) rel end few some format lists = absurd (cc)
-finish s n g h x (Done t c a ∷ []) rel end few some format lists = absurd (cc)
-finish s n g h x (Commit t ∷ []) rel end few some format lists = absurd (cc)
-finish s n g h x (Ended t ∷ []) rel end few some format lists = absurd (cc)
-finish s n g h x (Solo t p b ∷ []) rel end few some format lists = absurd (cc)
-finish s n g h x (AuditBegin ∷ []) rel end few some format lists = absurd (cc)
-finish s n g h x (AuditClean b ∷ []) rel end few some format lists = absurd (cc)
-finish s n g h x (AuditFail b rs ∷ []) rel end few some format lists = absurd (cc)
 finish s n g h x (Restarted rs ds ∷ []) rel end few some format lists = rw (once, lists rs ds refl, or_right (g.number == n) true refl, or_right (not g.failed) true refl) refl
   where
     by_step : (o : Option Rules) → rules_step s h (Restarted rs ds) ≡ o → IsSome o → h.restarted ≡ false
@@ -108,6 +99,7 @@ finish s n g h x (Restarted rs ds ∷ []) rel end few some format lists = rw (on
     once : g.restarted ≡ false
     once = false_from_ne_true g.restarted (λ q. both_ways h.restarted (by_step (rules_step s h (Restarted rs ds)) refl some) (rel.restarted q))
 finish s n g h x (Back t b ∷ []) rel end few some format lists = absurd (cc)
+finish s n g h x _ rel end few some format lists = absurd (cc)
 
 restart_knows : (s : Sizes) (h k : Rules) (rs ds : List ℕ) → rules_step s h (Restarted rs ds) ≡ Some k → (k.audits ≡ []) × (k.restarted ≡ true)
 restart_knows s h k rs ds e = by_test (h.count == 0) e

@@ -11,12 +11,12 @@ use Rattle.dali_geometry.specs.Sizes.{Sizes}
 use Rattle.dali_record.specs.Damage.{deleted_list, rolled_list}
 use Rattle.dali_record.specs.Epochs.{Epoch, cut, epochs, last_epoch, recovered_epoch, recovered_or, separates}
 use Rattle.dali_record.specs.Files.{Files, is_restarted, next_after, table_before}
-use Rattle.dali_record.specs.Legal.{IsLegalFor, Rules, has_room, on_kind, passes, rules_behind, rules_first, rules_state, rules_step, runs}
+use Rattle.dali_record.specs.Legal.{IsLegalFor, Rules, has_room, on_kind, passes, rules_state}
 use Rattle.dali_record.specs.Settled.{redo_all}
 use Rattle.dali_record.specs.declared.records.Record.{Record}
 use Rattle.dali_record.specs.declared.records.Record.TheVariants.{AuditBegin, AuditClean, AuditFail, Back, Begin, Commit, Done, Ended, Format, Forward, Restarted, Solo}
 use Rattle.dali_record.proofs.Batches.{recovered_restarted, not_restarted, number_is_length}
-use Rattle.dali_record.proofs.EpochRules.{format_first, rules_before, kept_if_some}
+use Rattle.dali_record.proofs.EpochRules.{format_first, rules_before, kept_if_some, ran}
 use Rattle.dali_record.proofs.Stages.{IsWithin}
 use Rattle.dali_history.specs.History.{AreSpelled}
 use Rattle.dali_history.specs.Recovered.{base_of, recover}
@@ -29,7 +29,6 @@ use Rattle.dali_resume.specs.Laws.{MayResume}
 use Rattle.dali_resume.specs.Onward.{Going, KnowsAlike, closed_image, deleted_behind, goes_through, going_at, going_next, rolled_behind}
 use Rattle.dali_resume.specs.Resumed.{damage_from, deleted_by, rolled_by, scan}
 use Rattle.dali_resume.specs.Tests.{Known, known_at, known_next, may_follow, next_behind, test_next, tests}
-use Rattle.dali_resume.proofs.Audits.{behind_runs, first_refuses}
 use Rattle.dali_resume.proofs.FromFiles.{may_resume}
 use Rattle.dali_resume.proofs.Joined.{recovers_alike, reports_alike, some_left, kept_at}
 use Rattle.dali_resume.proofs.Onward.{told_lists}
@@ -59,13 +58,6 @@ pub knows_alike : KnowsAlike
 knows_alike s F Q k e = known_through s F.first (going_at F) Q ∙ known_tested s F.first Q (known_at F.first F.next F.table) k e
 
 -- ---- numbers
-
-ran : (s : Sizes) (h k : Rules) (r : Record) → separates r ≡ false → rules_step s h r ≡ Some k → runs s h r ≡ Some k
-ran s h k r w e = by_test (h.count == 0) e
-  where
-    by_test : (c : Bool) → cond c (rules_first s h r) (rules_behind s h r) ≡ Some k → runs s h r ≡ Some k
-    by_test true q = first_refuses s h k r w q
-    by_test false q = (behind_runs s h k r w q).1
 
 pub next_step : (s : Sizes) (Y : List Record) (r : Record) (k : Rules) → rules_state s (Y ++ r ∷ []) ≡ Some k → next_behind (next_after Y) r ≡ next_after (Y ++ r ∷ [])
 next_step s Y (Format i j) k e = sym (undrawn Y (Format i j) refl)

@@ -18,12 +18,12 @@ use Rattle.dali_record.specs.Legal.{Rules, rules_state}
 use Rattle.dali_record.proofs.Ends.{by_push, get_old}
 use Rattle.dali_record.proofs.Pushes.{cut_push}
 use Rattle.dali_record.proofs.Stages.{IsWithin}
-use Rattle.dali_record.proofs.EpochRules.{format_first, rules_before}
+use Rattle.dali_record.proofs.EpochRules.{format_first, rules_before, within_push}
 use Rattle.dali_crash.proofs.Fitting.{found_is, within_epoch}
 use Rattle.dali_resume.specs.Resumed.{first_from, records_from}
 use Rattle.dali_resume.specs.Reading.{up_to_next, part_from, number_from}
 use Rattle.dali_resume.specs.Laws.{ReadsEpoch}
-use Rattle.dali_resume.proofs.Audits.{length_more, within_push}
+use Rattle.dali_resume.proofs.Audits.{length_more}
 
 -- ---- where an epoch stands in its log
 -- what follows is nothing, or begins with what separates epochs

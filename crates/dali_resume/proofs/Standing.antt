@@ -10,7 +10,7 @@ use mathlib.Core.Bool.{or-false}
 use Rattle.dali_geometry.specs.Sizes.{Sizes}
 use Rattle.dali_record.specs.declared.operations.Pending.{Pending}
 use Rattle.dali_record.specs.declared.records.Record.{Record}
-use Rattle.dali_record.specs.declared.records.Record.TheVariants.{Format, Begin, Forward, Done, Commit, Ended, Solo, AuditBegin, AuditClean, AuditFail, Restarted, Back}
+use Rattle.dali_record.specs.declared.records.Record.TheVariants.{Format, Begin, Forward, Done, Commit, Ended}
 use Rattle.dali_record.specs.Log.{Touch, touch_of, touch_at, begun, begin_by, committed, commit_by, ended, ended_by, undos_of, undo_step}
 use Rattle.dali_record.specs.Damage.{Damage, has, any_touch}
 use Rattle.dali_record.specs.Legal.{Working, TxnState, Unbegun, Active, Committed, Over, txn_step, txn_next, concerns, allowed, is_none_left, dead_of}
@@ -56,12 +56,7 @@ none_ended s t w v (Ended u) own e = let g : allowed (is_none_left w.undos) (Som
     never : (c : Bool) → allowed c (Some Over) ≡ Some (Active v) → ⊥
     never true q = cc
     never false q = cc
-none_ended s t w v (Solo u p b) own e = refl
-none_ended s t w v AuditBegin own e = refl
-none_ended s t w v (AuditClean b) own e = refl
-none_ended s t w v (AuditFail b rs) own e = refl
-none_ended s t w v (Restarted rs ds) own e = refl
-none_ended s t w v (Back u b) own e = refl
+none_ended s t w v _ own e = refl
 
 -- ---- begun, committed, ended, and the undo list, by the state
 abbrev pub Lies : Bool → Bool → Bool → List Pending → TxnState → Type 0

@@ -1,6 +1,6 @@
 -- From a history a restart hands out what is right however many restarts the log has, from a format on; and it may be stopped and made again.
-use Rattle.std.specs.Prelude.{flat_map, not, slice_get, sum_by}
-use Rattle.std.proofs.Common.{Bool, List, None, Some, ap, append_assoc, arith, cond, drop, false, inl, inr, length, refl, subst, suc, sym, take, true, zero, ℕ, ◌≡◌, ◌∷◌, ◌++◌, ◌∙◌, ◌⊎◌, ◌≤◌, ◌-◌, ◌<◌, []}
+use Rattle.std.specs.Prelude.{flat_map, not}
+use Rattle.std.proofs.Common.{Bool, List, None, Some, ap, append_assoc, arith, cond, drop, false, inl, inr, length, refl, subst, sym, true, ℕ, ◌≡◌, ◌∷◌, ◌++◌, ◌∙◌, ◌⊎◌, ◌≤◌, ◌<◌, []}
 use Rattle.std.proofs.lemmas.Bool.{cases_lt, eq-eqb}
 use Rattle.std.proofs.lemmas.List.{append-nil, length-append}
 use Rattle.std.proofs.lemmas.List.Concat.{flat_map-append}
@@ -8,11 +8,8 @@ use Rattle.dali_geometry.specs.Places.{formatted_image}
 use Rattle.dali_geometry.specs.Sizes.{Sizes}
 use Rattle.dali_index.proofs.Forms.{formatted_is_image, formatted_is_tidy}
 use Rattle.dali_record.specs.Damage.{deleted_list, rolled_list}
-use Rattle.dali_record.specs.Epochs.{cut, epochs, last_epoch, recovered_epoch, recovered_or}
-use Rattle.dali_record.specs.Files.{batch_length, epoch_from, is_restarted_first, next_after}
+use Rattle.dali_record.specs.Epochs.{cut, last_epoch, recovered_epoch, recovered_or}
 use Rattle.dali_record.specs.Legal.{IsLegalFor, sizes_of}
-use Rattle.dali_record.specs.Settled.{words_in}
-use Rattle.dali_record.specs.Spelling.{record_length}
 use Rattle.dali_record.specs.declared.records.Record.{Record}
 use Rattle.dali_record.specs.declared.records.Record.TheVariants.{Format, Restarted}
 use Rattle.dali_record.proofs.Batches.{recovered_restarted}
@@ -26,13 +23,14 @@ use Rattle.dali_crash.specs.Starts.{IsRestarted}
 use Rattle.dali_system.specs.Images.{FitsBut}
 use Rattle.dali_system.specs.Run.{log_in}
 use Rattle.dali_crash.proofs.Fitting.{but_is_whole}
-use Rattle.dali_crash.proofs.Starts.{fresh_fits, nothing_redone, no_rows}
+use Rattle.dali_crash.proofs.Starts.{formatted_fits, fresh_fits}
 use Rattle.dali_headline.proofs.EpochByEpoch.{recovered_holds}
 use Rattle.dali_headline.proofs.Headline.{restart_is_right}
 use Rattle.dali_headline.proofs.NothingToFree.{freed_tidy}
 use Rattle.dali_resume.specs.Again.{Outcome, closed_log, closing, outcome_is, turned}
 use Rattle.dali_resume.specs.Onward.{CrashIsAnswered, FormatFits, FormatHandsOut, Going, HandedOut, IsRightAtEnd, RestartsOnward, ResumesHistories, closed_image, formatted_outcome, goes_through, going_at, going_next, hands_on, history_says, image_now, verdict_by, verdict_of}
 use Rattle.dali_resume.specs.Tests.{first_bad, known_at, may_follow}
+use Rattle.dali_resume.proofs.Again.{turned_is_fresh}
 use Rattle.dali_resume.proofs.Reached.{reached}
 use Rattle.dali_resume.proofs.Through.{resumes_through}
 
@@ -75,34 +73,9 @@ resumes_histories K Z F history some front lt = (right, (restart_is_right L hist
 pub format_fits : FormatFits
 format_fits s F some_index some_heap is = (
   F.batches,
-  record {
-    fits = record {
-      log = ap (λ bs. flat_map (λ b. b) bs) is.batches;
-      batch = (
-        1,
-        ap (λ bs. flat_map (λ b. b) (take 1 bs)) is.batches ∙ sym (ap (λ n. take n (Format s.index s.heap ∷ [])) is.first),
-        is.place ∙ sym (ap (λ bs. sum_by batch_length (take 1 bs)) is.batches),
-        λ j b h e. one j b h (ap (λ bs. slice_get bs j) (sym is.batches) ∙ e),
-      );
-      count = omega (arith, is.first);
-      lengths = is.weight ∙ sym (ap (λ n. sum_by record_length (take n (Format s.index s.heap ∷ []))) is.first);
-      numbers = is.next ∙ sym (ap (λ n. next_after (take n (Format s.index s.heap ∷ []))) is.first);
-      fresh = λ h. (is.place, is.first, is.table, is.image);
-      current = λ h. absurd (omega (arith, h, is.gates));
-      epoch = ap (λ n. epoch_from n (epochs (Format s.index s.heap ∷ []))) is.first;
-      recent = inr refl;
-      certified = omega (arith, is.first);
-      table_is = is.table ∙ no_rows (F.first - 1);
-      words = λ r h. nothing_redone F.image (formatted_image s) (F.first - 1) (1 - 1) r (ap (λ (im : List (List ℕ)). words_in im r) is.image);
-    };
-    image_whole = ap length is.image ∙ (formatted_is_image s some_index some_heap).count;
-    base_whole = (formatted_is_image s some_index some_heap).count;
-  },
+  but_is_whole s (λ k. formatted_image s) (λ q. false) (Format s.index s.heap ∷ []) F (last_epoch (Format s.index s.heap ∷ []))
+      (formatted_fits s (λ k. formatted_image s) (λ q. false) F is refl (formatted_is_image s some_index some_heap).count) (formatted_is_image s some_index some_heap).count (λ q h. refl),
 )
-  where
-    one : (j : ℕ) (b : List Record) → 1 ≤ j → slice_get ((Format s.index s.heap ∷ []) ∷ []) j ≡ Some b → is_restarted_first b ≡ true
-    one zero b h e = absurd (omega (arith, h))
-    one (suc j) b h e = absurd (cc)
 
 -- ---- a restart that is stopped
 
@@ -176,24 +149,7 @@ restarts_onward K Z F r E history some front spell full = record {
     log_is = flat_map-append (λ b. b) F.batches ((closing L ∷ []) ∷ []) ∙ ap (λ X. X ++ closing L ∷ []) spell
 
     restarted : IsRestarted (closed_log (K ++ Z)) (turned (K ++ Z) F)
-    restarted = record {
-      closed = L;
-      rolled = rs;
-      deleted = ds;
-      log = refl;
-      some = (r, E, full);
-      older = F.batches;
-      batches = refl;
-      spell = spell;
-      gates = omega arith;
-      number = refl;
-      place = refl;
-      first = refl;
-      weight = refl;
-      next = refl;
-      image = sym again;
-      table = refl;
-    }
+    restarted = turned_is_fresh L F r E full spell
 
     but : FitsBut (sizes_of (closed_log (K ++ Z))) (λ k. recovered (sizes_of (K ++ Z)) (K ++ Z)) (λ q. false) (flat_map (λ b. b) (turned (K ++ Z) F).batches) (turned (K ++ Z) F) (last_epoch (flat_map (λ b. b) (turned (K ++ Z) F).batches))
     but = fresh_fits (λ k. recovered (sizes_of L) L) (closed_log L) (turned L F) (λ q. false) (sym again) (record { log = log_is; kind = inr restarted })

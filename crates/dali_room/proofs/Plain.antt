@@ -17,7 +17,8 @@ use Rattle.dali_record.specs.Settled.{AreSound}
 use Rattle.dali_record.specs.Legal.{rules_state, rules_first, rules_start, sizes_of}
 use Rattle.dali_record.proofs.Ends.{by_push}
 use Rattle.dali_record.proofs.Pushes.{cut_push}
-use Rattle.dali_record.proofs.Sole.{rules_earlier, format_empty, by_epochs}
+use Rattle.dali_record.proofs.EpochRules.{format_empty}
+use Rattle.dali_record.proofs.Sole.{rules_earlier, by_epochs}
 use Rattle.dali_index.specs.Invariant.{IsImage}
 use Rattle.dali_index.proofs.Forms.{formatted_is_image, formatted_is_indexed, formatted_is_tidy}
 use Rattle.dali_history.specs.Recovered.{IsHonestIn, AreHonest}

@@ -13,6 +13,7 @@ use Rattle.dali_record.specs.Operations.{undo_op}
 use Rattle.dali_record.specs.Log.{drop_last, last_of}
 use Rattle.dali_record.specs.Calls.{Fresh}
 use Rattle.dali_record.specs.Legal.{Working, Onward, TxnState, Unbegun, Active, Over, Committed as IsOver, concerns, allowed, is_answer, is_level, is_none_left, is_of, dead_of, rested, way_back, freeing_op}
+use Rattle.dali_record.proofs.Moves.{some_state}
 use Rattle.dali_kept.specs.Kept.{kept_step, freed_later}
 use Rattle.dali_kept.proofs.OperationsKeep.{Forwards, forward_is}
 use Rattle.dali_kept.proofs.KnownTxns.{is_allowed, back_is}
@@ -38,12 +39,9 @@ pub data Stepped (s : Sizes) (t : ℕ) (x : TxnState) (r : Record) (y : TxnState
   alone : (p : ℕ) → (b : Block) → x ≡ Unbegun → r ≡ Solo t p b → y ≡ Over → Stepped s t x r y
   restarts : (rs ds : List ℕ) → r ≡ Restarted rs ds → ((w : Working) → y ≡ Active w → ⊥) → Stepped s t x r y
 
-some_same : (x y : TxnState) → Some x ≡ Some y → y ≡ x
-some_same x y e = cc (e)
-
 -- ---- own records
 begin_step : (s : Sizes) (t : ℕ) (x y : TxnState) → kept_step s t x (Begin t) ≡ Some y → (x ≡ Unbegun) × (y ≡ Active fresh)
-begin_step s t Unbegun y e = let f : Some (Active fresh) ≡ Some y = rw (eq-eqb t t refl) at e in (refl, some_same _ y f)
+begin_step s t Unbegun y e = let f : Some (Active fresh) ≡ Some y = rw (eq-eqb t t refl) at e in (refl, some_state _ y f)
 begin_step s t (Active w) y e = absurd (refused t (Active w) y e)
 begin_step s t (IsOver ps) y e = absurd (refused t (IsOver ps) y e)
 begin_step s t Over y e = absurd (refused t Over y e)
@@ -51,7 +49,7 @@ begin_step s t Over y e = absurd (refused t Over y e)
 ended_step : (s : Sizes) (t : ℕ) (x y : TxnState) → kept_step s t x (Ended t) ≡ Some y → Stepped s t x (Ended t) y
 ended_step s t Unbegun y e = absurd (refused t Unbegun y e)
 ended_step s t (Active w) y e = let f : allowed (is_none_left w.undos) (Some Over) ≡ Some y = rw (eq-eqb t t refl) at e in let g = is_allowed (is_none_left w.undos) Over y f in ends w refl refl g.0 (sym g.1)
-ended_step s t (IsOver ps) y e = let f : Some Over ≡ Some y = rw (eq-eqb t t refl) at e in closes ps refl refl (some_same Over y f)
+ended_step s t (IsOver ps) y e = let f : Some Over ≡ Some y = rw (eq-eqb t t refl) at e in closes ps refl refl (some_state Over y f)
 ended_step s t Over y e = absurd (refused t Over y e)
 
 freed_of : (b : Block) (ps : List Pending) (y : TxnState) → freed_later b ps ≡ Some y → (p : Pending) × (qs : List Pending) × (is_of (freeing_op p.undo) p b ≡ true) × (y ≡ IsOver qs)
@@ -62,7 +60,7 @@ freed_of b (p ∷ ps) y e = go (is_of (freeing_op p.undo) p b) refl e (freed_of 
         (c : Bool) → is_of (freeing_op p.undo) p b ≡ c → (if c then Some (IsOver ps) else freed_later b ps) ≡ Some y
         → (freed_later b ps ≡ Some y → (p : Pending) × (qs : List Pending) × (is_of (freeing_op p.undo) p b ≡ true) × (y ≡ IsOver qs))
         → (p : Pending) × (qs : List Pending) × (is_of (freeing_op p.undo) p b ≡ true) × (y ≡ IsOver qs)
-    go true f g later = (p, ps, f, some_same _ y g)
+    go true f g later = (p, ps, f, some_state _ y g)
     go false f g later = later g
 
 -- a solo that frees for t
@@ -97,16 +95,16 @@ solo_own s t p b Unbegun y e = go (p == t) (rw (eq-eqb t t refl) at e)
   where
     go : (c : Bool) → allowed (not c) (Some Over) ≡ Some y → Stepped s t Unbegun (Solo t p b) y
     go true f = absurd (cc (f))
-    go false f = alone p b refl refl (some_same Over y f)
+    go false f = alone p b refl refl (some_state Over y f)
 solo_own s t p b (Active w) y e = let f : None ≡ Some y = rw (eq-eqb t t refl) at e in absurd (cc (f))
 solo_own s t p b (IsOver ps) y e = let f : None ≡ Some y = rw (eq-eqb t t refl) at e in absurd (cc (f))
 solo_own s t p b Over y e = let f : None ≡ Some y = rw (eq-eqb t t refl) at e in absurd (cc (f))
 
 restarted : (s : Sizes) (t : ℕ) (x y : TxnState) (rs ds : List ℕ) → kept_step s t x (Restarted rs ds) ≡ Some y → (w : Working) → y ≡ Active w → ⊥
-restarted s t Unbegun y rs ds e w f = let g : y ≡ Unbegun = some_same Unbegun y e in let h : Active w ≡ Unbegun = sym f ∙ g in cc (h)
-restarted s t (Active v) y rs ds e w f = let g : y ≡ Over = some_same Over y e in let h : Active w ≡ Over = sym f ∙ g in cc (h)
-restarted s t (IsOver ps) y rs ds e w f = let g : y ≡ Over = some_same Over y e in let h : Active w ≡ Over = sym f ∙ g in cc (h)
-restarted s t Over y rs ds e w f = let g : y ≡ Over = some_same Over y e in let h : Active w ≡ Over = sym f ∙ g in cc (h)
+restarted s t Unbegun y rs ds e w f = let g : y ≡ Unbegun = some_state Unbegun y e in let h : Active w ≡ Unbegun = sym f ∙ g in cc (h)
+restarted s t (Active v) y rs ds e w f = let g : y ≡ Over = some_state Over y e in let h : Active w ≡ Over = sym f ∙ g in cc (h)
+restarted s t (IsOver ps) y rs ds e w f = let g : y ≡ Over = some_state Over y e in let h : Active w ≡ Over = sym f ∙ g in cc (h)
+restarted s t Over y rs ds e w f = let g : y ≡ Over = some_state Over y e in let h : Active w ≡ Over = sym f ∙ g in cc (h)
 
 -- ---- each record
 pub stepped : (s : Sizes) (t : ℕ) (x : TxnState) (r : Record) (y : TxnState) → kept_step s t x r ≡ Some y → Stepped s t x r y
@@ -153,4 +151,4 @@ stepped s t x r y e = by_concern (concerns t r) refl
 
     by_concern : (c : Bool) → concerns t r ≡ c → Stepped s t x r y
     by_concern true c = own r c e
-    by_concern false c = stays c (some_same x y (sym (step_beside s t x r c) ∙ e))
+    by_concern false c = stays c (some_state x y (sym (step_beside s t x r c) ∙ e))

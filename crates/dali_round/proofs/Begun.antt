@@ -1,18 +1,13 @@
 -- A client that is in a transaction has begun it, so no two clients are in one.
-use Rattle.std.proofs.Common.{◌≡◌, ℕ, zero, suc, ◌+◌, ◌≤◌, Bool, true, false, List, [], ◌∷◌, length, fold, Option, Some, None, refl, ap, sym, subst, ◌∙◌, ◌⊎◌, inl, inr, ⊎_elim, arith}
+use Rattle.std.proofs.Common.{◌≡◌, ℕ, zero, suc, Bool, true, false, List, [], ◌∷◌, length, Option, Some, None, refl, ap, sym, subst, ◌∙◌, ◌⊎◌, inl, inr, ⊎_elim, arith}
 use Rattle.std.specs.Prelude.{if◌then◌else◌, Contains, IsSome, slice_get}
 use Rattle.std.specs.List.{AllByRecursion}
 use Rattle.std.proofs.lemmas.List.Concat.{flat_map-cons}
 use Rattle.std.proofs.lemmas.List.Elements.{Contains-append_right, Contains-append_left}
 use Rattle.dali_geometry.specs.Sizes.{Sizes}
-use Rattle.dali_counts.specs.Counts.{next_with}
-use Rattle.dali_counts.proofs.Lists.{some_same}
-use Rattle.dali_counts.proofs.Tallies.{tells_step}
-use Rattle.dali_record.specs.declared.records.Record.{Record}
 use Rattle.dali_record.specs.declared.records.Record.TheVariants.{Begin}
-use Rattle.dali_record.specs.Legal.{Rules, rules_state, rules_next, rules_step}
-use Rattle.dali_counts.proofs.Fronts.{none_rules}
-use Rattle.dali_counts.proofs.NewNumbers.{next_grows}
+use Rattle.dali_record.specs.Legal.{rules_state}
+use Rattle.dali_counts.proofs.Begins.{one_begin}
 use Rattle.dali_transcripts.specs.Words.{closes}
 use Rattle.dali_transcripts.specs.World.{Logs, World, log_of}
 use Rattle.dali_transcripts.specs.Moves.{Receipt, Place, Outside, LeftOut, Within, Spot, Move, Begins, BeginsAgain, Skips, Answers, IsRefusedCall, IsArmed, from, own, to, start}
@@ -20,7 +15,6 @@ use Rattle.dali_transcripts.specs.Transcripts.{IsPath, own_by, deeds_of}
 use Rattle.dali_transcripts.specs.Rounds.{Standing, Stands}
 use Rattle.dali_transcripts.specs.Laws.{IsIn}
 use Rattle.dali_transcripts.proofs.Owned.{own_ascend, owned_by_one}
-use Rattle.dali_during.proofs.Ascends.{begin_number}
 
 abbrev pub in_txn : Place → Option ℕ
 in_txn (Within t tries cs d s) = Some t
@@ -66,50 +60,6 @@ has_begun w a t so e =
     (by_path w a.client t (start a.acts) so.moves a.spot so.path e)
 
 -- ---- in the log
-
-record FirstStep (s : Sizes) (h : Rules) (x : Record) (xs : List Record) : Type 0 where
-  behind : Rules
-  step : rules_step s h x ≡ Some behind
-  rest : IsSome (fold (rules_next s) (Some behind) xs)
-  next : behind.next ≡ next_with x h.next
-
-first_step : (s : Sizes) (h : Rules) (x : Record) (xs : List Record) → IsSome (fold (rules_next s) (Some h) (x ∷ xs)) → FirstStep s h x xs
-first_step s h x xs some = by_step (rules_step s h x) refl some
-  where
-    by_step : (o : Option Rules) → rules_step s h x ≡ o → IsSome (fold (rules_next s) o xs) → FirstStep s h x xs
-    by_step None e more = let no_way : false ≡ true = subst (λ (o : Option Rules). IsSome o) (none_rules s xs) more in absurd (cc)
-    by_step (Some g) e more = record { behind = g; step = e; rest = more; next = (tells_step s h x g e).2 }
-
-begins_above : (s : Sizes) (h : Rules) (xs : List Record) (i t : ℕ) → IsSome (fold (rules_next s) (Some h) xs) → slice_get xs i ≡ Some (Begin t) → h.next ≤ t
-begins_above s h [] i t some e = absurd (cc)
-begins_above s h (x ∷ xs) zero t some e =
-    let f = first_step s h x xs some in
-    let is : x ≡ Begin t = some_same e in
-    let number : t ≡ h.next = begin_number s h t (subst (λ z. IsSome (rules_step s h z)) is (subst (λ (o : Option Rules). IsSome o) (sym f.step) refl)) in
-    omega (arith, number)
-begins_above s h (x ∷ xs) (suc i) t some e =
-    let f = first_step s h x xs some in
-    let more = begins_above s f.behind xs i t f.rest e in
-    let up = next_grows x h.next in
-    omega (arith, more, up, f.next)
-
-never : {X : Type 0} (s : Sizes) (h : Rules) (x : Record) (xs : List Record) (j t : ℕ) → IsSome (fold (rules_next s) (Some h) (x ∷ xs)) → Some x ≡ Some (Begin t) → slice_get xs j ≡ Some (Begin t) → X
-never s h x xs j t some e f =
-    let one = first_step s h x xs some in
-    let is : x ≡ Begin t = some_same e in
-    let here = begins_above s h (x ∷ xs) zero t some e in
-    let above = begins_above s one.behind xs j t one.rest f in
-    let number : t ≡ h.next = begin_number s h t (subst (λ z. IsSome (rules_step s h z)) is (subst (λ (o : Option Rules). IsSome o) (sym one.step) refl)) in
-    let next : one.behind.next ≡ h.next + 1 = one.next ∙ ap (λ z. next_with z h.next) is in
-    absurd (omega (arith, above, number, next))
-
-one_begin : (s : Sizes) (h : Rules) (xs : List Record) (i j t : ℕ) → IsSome (fold (rules_next s) (Some h) xs) → slice_get xs i ≡ Some (Begin t) → slice_get xs j ≡ Some (Begin t) → i ≡ j
-one_begin s h [] i j t some e f = absurd (cc)
-one_begin s h (x ∷ xs) zero zero t some e f = refl
-one_begin s h (x ∷ xs) (suc i) (suc j) t some e f = ap suc (one_begin s (first_step s h x xs some).behind xs i j t (first_step s h x xs some).rest e f)
-one_begin s h (x ∷ xs) zero (suc j) t some e f = never s h x xs j t some e f
-one_begin s h (x ∷ xs) (suc i) zero t some e f = never s h x xs i t some f e
-
 in_log : (w : World) (c t : ℕ) (h : HasBegun t (deeds_of w c)) → slice_get (log_of w) h.0 ≡ Some (Begin t)
 in_log w c t h = by_place (deeds_of w c) h.1 (own_ascend w c).logged
   where
@@ -123,5 +73,5 @@ pub in_one : (s : Sizes) (w : World) (a b : Standing) (t : ℕ) → IsSome (rule
 in_one s w a b t legal so also e f =
     let one = has_begun w a t so e in
     let two = has_begun w b t also f in
-    let same : one.0 ≡ two.0 = one_begin s _ (log_of w) one.0 two.0 t legal (in_log w a.client t one) (in_log w b.client t two) in
+    let same : one.0 ≡ two.0 = one_begin s (log_of w) one.0 two.0 t legal (in_log w a.client t one) (in_log w b.client t two) in
     owned_by_one a.client b.client (length w.before) w.happened one.0 (Begin t) (Begin t) one.1 (subst (λ n. Contains (deeds_of w b.client) (n, Logs (Begin t))) (sym same) two.1)

@@ -1,28 +1,26 @@
 -- What a crash inside one part of a round leaves, and inside one behind another.
-use Rattle.std.proofs.Common.{◌≡◌, ℕ, Bool, true, List, [], ◌++◌, Option, Some, None, is_some, refl, ap, sym, ◌∙◌, append_assoc}
+use Rattle.std.proofs.Common.{◌≡◌, ℕ, Bool, List, [], ◌++◌, Option, refl, ap, sym, ◌∙◌, append_assoc}
 use Rattle.std.proofs.lemmas.List.{append-nil}
 use Rattle.dali_record.specs.declared.records.Record.{Record}
+use Rattle.dali_record.specs.Files.{Files}
 use Rattle.dali_region.specs.State.{RegionState}
 use Rattle.dali_store.specs.Store.{Files as Disk}
 use Rattle.dali_system.specs.State.{SystemState, log_after}
 use Rattle.dali_crash.specs.Checkpoints.{Point, StoreStep, IsPointCourse}
 use Rattle.dali_crash.specs.Traces.{Start}
+use Rattle.dali_traces.specs.Bridges.{LeavesRightAt}
 use Rattle.dali_vault.specs.Vaulted.{Vaulted}
-use Rattle.dali_whole.specs.Cores.{NoShorter, IsNoShorter}
+use Rattle.dali_whole.specs.Cores.{IsNoShorter}
 use Rattle.dali_whole.specs.Moments.{Within}
 use Rattle.dali_whole.proofs.Moments.{leaves_more, leaves_both}
+use Rattle.dali_whole.proofs.Lengths.{no_shorter_tells}
 use Rattle.dali_checkpoint.proofs.Moments.{each_told, there as at_told, no_call}
 use Rattle.dali_checkpoint.proofs.Calls.{course_join}
 use Rattle.dali_ends.specs.Stands.{StandsAt}
 use Rattle.dali_turns.specs.declared.client.Client.{Client}
 use Rattle.dali_turns.specs.Moments.{LeavesHere, LeavesUpTo, TurnLeavesRight}
 use Rattle.dali_turns.proofs.Moments.{course_log, crash_right}
-use Rattle.dali_round.specs.Moments.{LeavesBetween}
-
-still_told : (o p : Option Disk) → NoShorter o p → is_some o ≡ true → is_some p ≡ true
-still_told (Some a) (Some b) longer e = refl
-still_told (Some a) None longer e = absurd longer
-still_told None p longer e = absurd (cc)
+use Rattle.dali_round.specs.Moments.{EndsRight, IsRightBetween, LeavesBetween}
 
 -- ---- one part of a course behind another
 pub come_from : (s : Start) (o p q : Point) (xs : List StoreStep) → IsPointCourse o xs p → (c : Disk) → LeavesBetween s p q c → LeavesBetween s o q c
@@ -66,48 +64,31 @@ go_to s p q r ys course c D =
       },
     )
 
+-- files that restart right at a point which steps lead to from the first one
+from_first : (s : Start) (p q to : Point) (xs ys : List StoreStep) (rest : List Record) (F : Files) → IsPointCourse p xs q → IsPointCourse p ys to → to.core.regions ≡ p.core.regions → to.log ++ rest ≡ q.log → LeavesRightAt s to F → IsRightBetween s p q F
+from_first s p q to xs ys rest F goes course regions log right = record {
+  between = p;
+  before = [];
+  comes = refl;
+  behind = xs;
+  goes = goes;
+  to = to;
+  steps = ys;
+  course = course;
+  regions = regions;
+  rest = rest;
+  log = log;
+  right = right;
+}
+
 -- what a step leaves up to its core's log, it leaves between its ends
 pub up_to : (s : Start) (p q : Point) (gs : List RegionState) (z : SystemState) (xs : List StoreStep) → p.core.regions ≡ gs → IsPointCourse p xs q → q.log ≡ log_after s.log z → (c : Disk) → LeavesUpTo s p gs z c → LeavesBetween s p q c
-up_to s p q gs z xs regions course log c D = (
-  D.0,
-  D.1,
-  record {
-    between = p;
-    before = [];
-    comes = refl;
-    behind = xs;
-    goes = course;
-    to = D.2.to;
-    steps = D.2.steps;
-    course = D.2.course;
-    regions = D.2.regions ∙ sym regions;
-    rest = D.2.log.0;
-    log = D.2.log.1 ∙ sym log;
-    right = D.2.right;
-  },
-)
+up_to s p q gs z xs regions course log c D = (D.0, D.1, from_first s p q D.2.to xs D.2.steps D.2.log.0 D.0 course D.2.course (D.2.regions ∙ sym regions) (D.2.log.1 ∙ sym log) D.2.right)
 
 -- what an end leaves that logs nothing
 pub here_between : (s : Start) (p q : Point) (gs : List RegionState) (xs : List StoreStep) → p.core.regions ≡ gs → IsPointCourse p xs q → (c : Disk) → LeavesHere s p gs c → LeavesBetween s p q c
 here_between s p q gs xs regions course c D =
-    let on = course_log p q xs course in (
-      D.0,
-      D.1,
-      record {
-        between = p;
-        before = [];
-        comes = refl;
-        behind = xs;
-        goes = course;
-        to = D.2.to;
-        steps = D.2.steps;
-        course = D.2.course;
-        regions = D.2.regions ∙ sym regions;
-        rest = on.0;
-        log = ap (λ l. l ++ on.0) D.2.same ∙ on.1;
-        right = D.2.right;
-      },
-    )
+    let on = course_log p q xs course in (D.0, D.1, from_first s p q D.2.to xs D.2.steps on.0 D.0 course D.2.course (D.2.regions ∙ sym regions) (ap (λ l. l ++ on.0) D.2.same ∙ on.1) D.2.right)
 
 module _ {V : Type 0} (told : V → Option Disk) (may_leave : V → Disk → Type 0) (faults : V → ℕ) (moment : V → ℕ) (left_since : V → ℕ → Disk → Type 0) where
   pub map_left : (v u : Vaulted V) (P Q : Disk → Type 0) → ((c : Disk) → P c → Q c) → Within told moment left_since v u P → Within told moment left_since v u Q
@@ -118,7 +99,19 @@ module _ {V : Type 0} (told : V → Option Disk) (may_leave : V → Disk → Typ
   between_both s p q r xs ys v u t one two longer first last = each_told (told v.store) _ (λ e.
       leaves_both moment left_since v.store u.store t.store (LeavesBetween s p q) (LeavesBetween s q r) (LeavesBetween s p r) (go_to s p q r ys two) (come_from s p q r xs one)
       (at_told (told v.store) _ e first)
-      (at_told (told u.store) _ (still_told (told v.store) (told u.store) longer e) last))
+      (at_told (told u.store) _ (no_shorter_tells (told v.store) (told u.store) longer ∙ e) last))
+
+  -- where the core stands behind steps
+  pub ends_right : (s : Start) (B : List (List Record)) (p q : Point) (steps : List StoreStep) (hs : List RegionState) (z : SystemState) (v u : Vaulted V) → StandsAt told may_leave faults s B q hs z u → IsPointCourse p steps q
+      → Within told moment left_since v u (LeavesBetween s p q) → EndsRight told moment left_since s p v hs z u
+  ends_right s B p q steps hs z v u stands course within = record {
+    to = q;
+    steps = steps;
+    course = course;
+    regions = stands.at.regions;
+    log = stands.at.vault.run.run.log ∙ ap (log_after s.log) stands.at.system;
+    within = within;
+  }
 
   -- no call of the store was made
   pub still_left : (s : Start) (B : List (List Record)) (p : Point) (gs : List RegionState) (y : SystemState) (v : Vaulted V) → ((c : Disk) → left_since v.store (moment v.store) c → may_leave v.store c)

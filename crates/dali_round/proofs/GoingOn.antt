@@ -28,15 +28,12 @@ use Rattle.dali_turns.proofs.Busied.{open_one}
 use Rattle.dali_round.specs.Idle.{AreIdle}
 use Rattle.dali_round.specs.Played.{Played, AreOver, EachIsOwned}
 use Rattle.dali_rounds.specs.Went.{is_open}
+use Rattle.dali_rounds.proofs.Going.{open_row}
 
 -- ---- rows
 row_state : (o : Option TxnRow) → IsSome o → is_some (state_in o) ≡ true
 row_state None some = absurd (cc)
 row_state (Some row) some = refl
-
-open_row : (o : Option TxnRow) → is_open (state_in o) ≡ true → IsSome o
-open_row None e = absurd (cc)
-open_row (Some row) e = refl
 
 -- who hasn't gone has a row, and isn't dead
 still_there : (o : Option TxnState) → ((o ≡ None) ⊎ (is_dead_in o ≡ true) → ⊥) → (is_some o ≡ true) × (is_dead_in o ≡ false)

@@ -8,7 +8,7 @@ use Rattle.dali_lists.proofs.Lists.{set_same}
 use Rattle.dali_counts.proofs.Lists.{equal, same_number, some_same}
 use Rattle.dali_region.specs.State.{RegionState}
 use Rattle.dali_store.specs.Store.{Files as Disk}
-use Rattle.dali_system.specs.State.{SystemState, log_after}
+use Rattle.dali_system.specs.State.{SystemState}
 use Rattle.dali_crash.specs.Checkpoints.{Point, StoreStep, IsPointCourse}
 use Rattle.dali_crash.specs.Traces.{Start}
 use Rattle.dali_vault.specs.Vaulted.{Vaulted}
@@ -30,7 +30,7 @@ use Rattle.dali_round.specs.Moments.{LeavesBetween, HaltsOn, HaltsEnd}
 use Rattle.dali_round.proofs.Lists.{with_length}
 use Rattle.dali_round.proofs.Begun.{in_one}
 use Rattle.dali_round.proofs.Places.{at_spot, owns_within}
-use Rattle.dali_round.proofs.Between.{here_between, map_left, between_both, still_left}
+use Rattle.dali_round.proofs.Between.{here_between, map_left, between_both, ends_right, still_left}
 use Rattle.dali_round.proofs.Seats.{client_apart, speaks_on, same_numbers, legal, halting_by}
 
 module _ {V : Type 0} (told : V → Option Disk) (may_leave : V → Disk → Type 0) (faults : V → ℕ) (precheck : Bool) (s : Start) (p : Point) (bs : List Told) (ks : List Client) where
@@ -229,12 +229,4 @@ module _ {V : Type 0} (told : V → Option Disk) (may_leave : V → Disk → Typ
 
   pub halts_end : (upto : ℕ) (hs : List RegionState) (z : SystemState) (u : Vaulted V) → HaltsOn told may_leave faults moment left_since upto precheck ks os x o hs z u → HaltsEnd told may_leave faults moment left_since precheck ks os x o hs z u
   halts_end upto hs z u on s p bs h =
-      let a = on s p bs h in
-      record {
-        to = a.0.to;
-        steps = a.1;
-        course = a.2;
-        regions = a.0.stood.stands.at.regions;
-        log = a.0.stood.stands.at.vault.run.run.log ∙ ap (log_after s.log) a.0.stood.stands.at.system;
-        within = a.3;
-      }
+      let a = on s p bs h in ends_right told may_leave faults moment left_since s a.0.batches h.to a.0.to a.1 hs z o u a.0.stood.stands a.2 a.3

@@ -1,9 +1,9 @@
 -- Lists that are changed or read at one place.
-use Rattle.std.proofs.Common.{◌≡◌, ℕ, zero, suc, ◌+◌, ◌<◌, Bool, true, List, [], ◌∷◌, ◌++◌, length, map, Some, refl, ap, sym, ◌∙◌, ◌⊎◌, inl, inr, ⊎_elim, arith}
+use Rattle.std.proofs.Common.{◌≡◌, ℕ, zero, suc, ◌+◌, ◌<◌, Bool, true, List, [], ◌∷◌, ◌++◌, length, map, Some, refl, ap, sym, subst, ◌∙◌, ◌⊎◌, inl, inr, ⊎_elim, arith}
 use Rattle.std.specs.Prelude.{slice_get, slice_set}
 use Rattle.std.specs.List.{list_all}
 use Rattle.std.proofs.lemmas.Bool.{and_from}
-use Rattle.dali_counts.proofs.Lists.{some_same, and_left, and_right}
+use Rattle.dali_counts.proofs.Lists.{some_same, and_left, and_right, set_cases}
 
 -- what is below the next number is below this one, or is it
 pub by_less : (a b : ℕ) → a < b + 1 → (a < b) ⊎ (a ≡ b)
@@ -28,6 +28,22 @@ get_set_other (z ∷ xs) zero zero x y other e = absurd (other refl)
 get_set_other (z ∷ xs) zero (suc j) x y other e = e
 get_set_other (z ∷ xs) (suc i) zero x y other e = e
 get_set_other (z ∷ xs) (suc i) (suc j) x y other e = get_set_other xs i j x y (λ f. other (ap suc f)) e
+
+-- what is so of each place of two lists stays so where both are set at one place
+pub both_set : {X Y : Type 0} (P : ℕ → X → Y → Type 0) (xs : List X) (ys : List Y) (i : ℕ) (a : X) (b : Y) → P i a b
+    → ((n : ℕ) (x : X) (y : Y) → slice_get xs n ≡ Some x → slice_get ys n ≡ Some y → (n ≡ i → ⊥) → P n x y)
+    → (n : ℕ) (x : X) (y : Y) → slice_get (slice_set xs i a) n ≡ Some x → slice_get (slice_set ys i b) n ≡ Some y → P n x y
+both_set P xs ys i a b set others n x y at_x at_y =
+    ⊎_elim
+    (λ here. ⊎_elim
+    (λ also. subst (λ m. P n x m) (sym also.1) (subst (λ d. P n d b) (sym here.1) (subst (λ m. P m a b) (sym here.0) set)))
+    (λ away. absurd (away.0 (sym here.0)))
+    (set_cases ys i b n y at_y))
+    (λ away. ⊎_elim
+    (λ here. absurd (away.0 (sym here.0)))
+    (λ also. others n x y away.1 also.1 (λ e. away.0 (sym e)))
+    (set_cases ys i b n y at_y))
+    (set_cases xs i a n x at_x)
 
 -- lists of one length, of which one has an element where the other has one
 pub with_length : {X Y : Type 0} (xs : List X) (ys : List Y) (i : ℕ) (y : Y) → length ys ≡ length xs → slice_get ys i ≡ Some y → (x : X) × (slice_get xs i ≡ Some x)

@@ -22,7 +22,7 @@ use Rattle.dali_turns.specs.Turns.{TurnGoes}
 use Rattle.dali_turns.specs.Moments.{LeavesUpTo, TurnLeavesRight}
 use Rattle.dali_round.specs.Played.{AreNew, Played, MoveGoes}
 use Rattle.dali_round.specs.Moments.{LeavesBetween, PlayEnds, HaltsEnd, PlayLeaves, RoundLeavesRight}
-use Rattle.dali_round.proofs.Between.{come_from, up_to, map_left, between_both, still_left}
+use Rattle.dali_round.proofs.Between.{come_from, up_to, map_left, between_both, ends_right, still_left}
 use Rattle.dali_round.proofs.Seats.{there, seat, is_of, turn_played, turn_to, turn_halts, halts_to}
 use Rattle.dali_round.proofs.Halts.{may_halt, may_halt_to}
 use Rattle.dali_round.proofs.Starts.{start_played}
@@ -73,15 +73,7 @@ module _ {V : Type 0} (told : V → Option Disk) (may_leave : V → Disk → Typ
     pub done_leaves : (ks js : List Client) (gs hs : List RegionState) (y z : SystemState) (v u : Vaulted V) → PlayEnds told may_leave faults moment left_since true precheck ks gs y v js hs z u
         → PlayLeaves told may_leave faults moment left_since precheck ks gs y v hs z u
     done_leaves ks js gs hs y z v u one s p bs f =
-        let a = one s p bs f in
-        record {
-          to = a.0.to;
-          steps = a.1;
-          course = a.2;
-          regions = a.0.stood.stands.at.regions;
-          log = a.0.stood.stands.at.vault.run.run.log ∙ ap (log_after s.log) a.0.stood.stands.at.system;
-          within = a.3;
-        }
+        let a = one s p bs f in ends_right told may_leave faults moment left_since s a.0.batches f.to a.0.to a.1 hs z v u a.0.stood.stands a.2 a.3
 
     -- what can't be cut was ended; the flag of a checkpoint is none of the log
     pub halts_leave : (ks js : List Client) (gs hs is : List RegionState) (y z x x' : SystemState) (v u t : Vaulted V) → x'.since ≡ x.since → IsNoShorter told v u → PlayEnds told may_leave faults moment left_since false precheck ks gs y v js hs z u

@@ -2,6 +2,7 @@
 use Rattle.std.proofs.Common.{◌≡◌, ℕ, zero, suc, ◌+◌, ◌<◌, ◌≤◌, List, [], ◌∷◌, ◌++◌, length, map, Some, refl, ap, sym, subst, ◌∙◌, ⊎_elim, arith}
 use Rattle.std.specs.Prelude.{slice_get}
 use Rattle.std.proofs.lemmas.Option.{slice_get_within}
+use Rattle.dali_lists.proofs.Lists.{get_within}
 use Rattle.dali_counts.proofs.Lists.{some_same}
 use Rattle.dali_clients.specs.declared.command.Block.{Block}
 use Rattle.dali_clients.specs.Told.{told_of}
@@ -30,11 +31,6 @@ pushed_in (x ∷ xs) i = let there = pushed_in xs i in (suc there.0, there.1)
 
 still : (order more : List ℕ) (i : ℕ) → IsListed order i → IsListed (order ++ more) i
 still order more i (j, at) = (j, stays_in order more i j at)
-
-get_there : {X : Type 0} (xs : List X) (i : ℕ) → i < length xs → (x : X) × (slice_get xs i ≡ Some x)
-get_there [] i less = absurd (omega (arith, less))
-get_there (x ∷ xs) zero less = (x, refl)
-get_there (x ∷ xs) (suc i) less = get_there xs i (omega (arith, less))
 
 number_of : (bs : List Block) (i : ℕ) (b : Block) → AreBlocks (map told_of bs) → slice_get bs i ≡ Some b → (1 ≤ b.client) × (b.client ≤ 64)
 number_of bs i b are at = are.numbers i (told_of b) (get_map told_of bs i b at)
@@ -71,7 +67,7 @@ number_listed bs order number place far listed = record {
 pub all_listed : (bs : List Block) (order : List ℕ) (number : ℕ) → 65 ≤ number → AreBlocks (map told_of bs) → AreListed number 0 bs order → IsOrder order (length bs)
 all_listed bs order number past are listed = record {
   all = λ i less.
-      let there = get_there bs i less in
+      let there = get_within bs i less in
       let most = (number_of bs i there.0 are there.1).1 in
       listed.smaller i there.0 there.1 (omega (arith, past, most));
   within = listed.within;

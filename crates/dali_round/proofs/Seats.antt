@@ -5,7 +5,7 @@ use Rattle.std.specs.List.{list_all}
 use Rattle.std.proofs.lemmas.List.{length-set}
 use Rattle.std.proofs.lemmas.Bool.{ne_eqb}
 use Rattle.dali_lists.proofs.Lists.{get_set}
-use Rattle.dali_counts.proofs.Lists.{self, equal, same_number, set_cases, some_same}
+use Rattle.dali_counts.proofs.Lists.{self, equal, same_number, some_same}
 use Rattle.dali_record.specs.declared.records.Record.{Record}
 use Rattle.dali_record.specs.Legal.{rules_state}
 use Rattle.dali_region.specs.State.{RegionState}
@@ -32,7 +32,7 @@ use Rattle.dali_turns.specs.Turns.{own_numbers, AreReceipts, Turned, TurnGoes}
 use Rattle.dali_turns.proofs.Refusals.{runs_on_log}
 use Rattle.dali_turns.proofs.Staying.{others_fit}
 use Rattle.dali_round.specs.Played.{EachIsOwned, IsSeated, IsHalting, Played, Halting}
-use Rattle.dali_round.proofs.Lists.{get_map, map_set, get_set_other, with_length, all_append}
+use Rattle.dali_round.proofs.Lists.{get_map, map_set, get_set_other, both_set, with_length, all_append}
 use Rattle.dali_round.proofs.Begun.{in_one}
 use Rattle.dali_round.proofs.Places.{at_spot, owns_within, owns_in, owns_locks}
 
@@ -128,17 +128,7 @@ module _ {V : Type 0} (told : V → Option Disk) (may_leave : V → Disk → Typ
       standings = slice_set f.standings i b;
       blocks = map_set told_of f.standings i a b at_a same ∙ f.blocks;
       count = length-set ks i j ∙ (f.count ∙ sym (length-set f.standings i b));
-      seats = λ n c l at_c at_l.
-          ⊎_elim
-          (λ here. ⊎_elim
-          (λ also. subst (λ m. IsSeated told may_leave faults ok s C q x hs z u c m) (sym also.1) (subst (λ d. IsSeated told may_leave faults ok s C q x hs z u d j) (sym here.1) seat))
-          (λ away. absurd (away.0 (sym here.0)))
-          (set_cases ks i j n l at_l))
-          (λ away. ⊎_elim
-          (λ here. absurd (away.0 (sym here.0)))
-          (λ also. others n c l away.1 also.1 (λ e. away.0 (sym e)))
-          (set_cases ks i j n l at_l))
-          (set_cases f.standings i b n c at_c);
+      seats = both_set (λ n c l. IsSeated told may_leave faults ok s C q x hs z u c l) f.standings ks i b j seat others;
       owned = rows;
     }
       where
@@ -172,18 +162,7 @@ module _ {V : Type 0} (told : V → Option Disk) (may_leave : V → Disk → Typ
       standings = slice_set standings i b;
       blocks = map_set told_of standings i a b at_a (ap (λ c. record { client = c; acts = b.acts }) client ∙ ap (λ l. record { client = a.client; acts = l }) acts) ∙ blocks;
       count = length-set ks i j ∙ (count ∙ sym (length-set standings i b));
-      seats = λ n c l at_c at_l.
-          ⊎_elim
-          (λ here. ⊎_elim
-          (λ also. subst (λ m. IsHalting told may_leave faults upto n s C q x hs z u c m) (sym also.1) (subst (λ d. IsHalting told may_leave faults upto n s C q x hs z u d j) (sym here.1)
-          (subst (λ m. IsHalting told may_leave faults upto m s C q x hs z u b j) (sym here.0) seat)))
-          (λ away. absurd (away.0 (sym here.0)))
-          (set_cases ks i j n l at_l))
-          (λ away. ⊎_elim
-          (λ here. absurd (away.0 (sym here.0)))
-          (λ also. others n c l away.1 also.1 (λ e. away.0 (sym e)))
-          (set_cases ks i j n l at_l))
-          (set_cases standings i b n c at_c);
+      seats = both_set (λ n c l. IsHalting told may_leave faults upto n s C q x hs z u c l) standings ks i b j seat others;
     }
 
     pub halting_to : (b : Standing) (j : Client) (client : b.client ≡ a.client) (acts : b.acts ≡ a.acts) (upto : ℕ) (seat : IsHalting told may_leave faults upto i s C q x hs z u b j)

@@ -286,6 +286,13 @@ fn check_all(rt: &impl Abort, alloc: Global, rows: &str) -> Result<()> {
     Ok(())
 }
 
+// Checks what was said.
+fn check_said(rt: &impl Abort, said: Result<String>, wanted: &str) -> Result<()> {
+    let said = said?;
+    assert_eq!(rt; said.as_str(), wanted);
+    Ok(())
+}
+
 #[test]
 fn one_client(rt: HostRuntime) -> Result<()> {
     check_all(&rt, rt.alloc(), ONE_CLIENT)
@@ -324,9 +331,8 @@ fn as_many_as_may_be(alloc: Global) -> Result<(String, String)> {
 fn sixty_four_clients(rt: HostRuntime) -> Result<()> {
     let alloc = rt.alloc();
     let (texts, wanted) = as_many_as_may_be(alloc)?;
-    let said = said_in(alloc, whole_store(alloc), (7, 13), 1_000_000, &texts)?;
-    assert_eq!(rt; said.as_str(), wanted.as_str());
-    Ok(())
+    let said = said_in(alloc, whole_store(alloc), (7, 13), 1_000_000, &texts);
+    check_said(&rt, said, &wanted)
 }
 
 // Two clients with keys of their own make so many transactions of one insert each, and a third one makes audits.
@@ -353,21 +359,28 @@ fn lines_that_end(said: &str, end: &str) -> usize {
     said.split(" / ").filter(|line| line.ends_with(end)).count()
 }
 
+// How many inserts and commits are made beside 20 audits, where each of the two makes 200, how many audits are clean, and how
+// many lines there are in all.
+fn counts_beside_audits<V: Store + Drop>(
+    alloc: Global,
+    store: V,
+) -> Result<(usize, usize, usize, usize)> {
+    let texts = inserts_beside_audits(alloc, 200, 20)?;
+    let said = said_in(alloc, store, (20, 70), 1_000_000, &texts)?;
+    Ok((
+        lines_that_end(&said, " insert ok"),
+        lines_that_end(&said, " commit ok"),
+        lines_that_end(&said, "3 audit clean"),
+        lines_that_end(&said, ""),
+    ))
+}
+
 // No stray write comes, so each audit is clean; and no key is another client's, so each insert is made in its first try.
 #[test]
 fn each_audit_beside_inserts_is_clean(rt: HostRuntime) -> Result<()> {
     let alloc = rt.alloc();
-    let texts = inserts_beside_audits(alloc, 200, 20)?;
-    let said = said_in(alloc, whole_store(alloc), (20, 70), 1_000_000, &texts)?;
-    assert_eq!(rt;
-        (
-            lines_that_end(&said, " insert ok"),
-            lines_that_end(&said, " commit ok"),
-            lines_that_end(&said, "3 audit clean"),
-            lines_that_end(&said, "")
-        ),
-        (400, 400, 20, 1220)
-    );
+    let counts = counts_beside_audits(alloc, whole_store(alloc))?;
+    assert_eq!(rt; counts, (400, 400, 20, 1220));
     Ok(())
 }
 
@@ -424,11 +437,17 @@ fn rounds_go_on_behind_a_restart(rt: HostRuntime) -> Result<()> {
         "begin / insert 4 abc / commit / begin / insert 5 xyz / commit / checkpoint / poke 3 11 0100000000000000 / begin / get 4 / insert 6 qq / commit / begin / update 5 y / commit / begin / get 6 / commit / audit",
         "begin / get 4 / get 5 / commit | begin / get 6",
     )?;
-    assert_eq!(rt; report.rolled_back.len(), 0);
-    assert_eq!(rt; report.deleted.as_slice(), [3, 5].as_slice());
     assert_eq!(rt;
-        said.as_str(),
-        "1 begin 6 / 1 got abc / 1 got y / 1 commit ok / 2 begin 7 / 2 get missing / 2 aborted"
+        (
+            report.rolled_back.len(),
+            report.deleted.as_slice(),
+            said.as_str()
+        ),
+        (
+            0,
+            [3, 5].as_slice(),
+            "1 begin 6 / 1 got abc / 1 got y / 1 commit ok / 2 begin 7 / 2 get missing / 2 aborted"
+        )
     );
     Ok(())
 }
@@ -489,17 +508,21 @@ fn check_passes(
     Ok(())
 }
 
-// A store that fails at each of its calls in turn.
-#[test]
-fn faults(rt: HostRuntime) -> Result<()> {
-    let before = calls_of_a_format(rt.alloc(), (1, 1), 1_000_000)?;
-    for row in FAULTS.lines() {
+fn check_faults(rt: &impl Abort, alloc: Global, rows: &str) -> Result<()> {
+    let before = calls_of_a_format(alloc, (1, 1), 1_000_000)?;
+    for row in rows.lines() {
         if !row.starts_with('#') {
             let (passes, round) = parted(row, ';');
-            check_passes(&rt, rt.alloc(), before, passes, round)?;
+            check_passes(rt, alloc, before, passes, round)?;
         }
     }
     Ok(())
+}
+
+// A store that fails at each of its calls in turn.
+#[test]
+fn faults(rt: HostRuntime) -> Result<()> {
+    check_faults(&rt, rt.alloc(), FAULTS)
 }
 
 #[test]
@@ -507,15 +530,20 @@ fn full_logs(rt: HostRuntime) -> Result<()> {
     check_all(&rt, rt.alloc(), FULL_LOGS)
 }
 
-#[test]
-fn fourteen_transactions_fill_the_log(rt: HostRuntime) -> Result<()> {
-    let alloc = rt.alloc();
+// What is said by a client with a short log, which makes fourteen transactions of one insert each, and then goes on.
+fn said_at_a_short_log<V: Store + Drop>(alloc: Global, store: V) -> Result<String> {
     let mut text = String::new(alloc);
     for key in 1..=14 {
         text.push_str(&format!(in alloc; "begin / insert {key} abc / commit / ")?)?;
     }
     text.push_str("begin / insert 99 z / commit / poke 9 0 1")?;
-    let said = said_in(alloc, whole_store(alloc), (1, 2), 4096, &text)?;
+    said_in(alloc, store, (1, 2), 4096, &text)
+}
+
+#[test]
+fn fourteen_transactions_fill_the_log(rt: HostRuntime) -> Result<()> {
+    let alloc = rt.alloc();
+    let said = said_at_a_short_log(alloc, whole_store(alloc))?;
     assert!(rt;
         said.ends_with(
             " / 1 begin 13 / 1 insert ok / 1 commit ok / 1 begin 14 / 1 insert log full 4073 4096 / 1 commit ok / 1 begin log full 4148 4096 / 1 poke out of range"
@@ -543,14 +571,11 @@ fn shared_in_turn(alloc: Global) -> Result<String> {
     Ok(text)
 }
 
-// How many lines the second client has, and what all say.
-fn lines_of_the_second<V: Store + Drop>(
-    alloc: Global,
-    store: V,
-    texts: &str,
-) -> Result<(usize, String)> {
+// How many lines the second of these clients has, and what all say.
+fn lines_of_the_second<V: Store + Drop>(alloc: Global, store: V) -> Result<(usize, String)> {
+    let texts = shared_in_turn(alloc)?;
     let core = core_of(alloc, store, (1, 1), 100_000_000)?;
-    let (_core, transcripts) = done(alloc, core, false, texts, &OpenGate)?;
+    let (_core, transcripts) = done(alloc, core, false, &texts, &OpenGate)?;
     let transcript = transcripts.get(1).context("no transcript")?;
     Ok((transcript.lines().len(), text_of(alloc, &transcripts)?))
 }
@@ -560,8 +585,7 @@ fn lines_of_the_second<V: Store + Drop>(
 #[test]
 fn the_thousandth_try_is_the_last(rt: HostRuntime) -> Result<()> {
     let alloc = rt.alloc();
-    let texts = shared_in_turn(alloc)?;
-    let (lines, said) = lines_of_the_second(alloc, whole_store(alloc), &texts)?;
+    let (lines, said) = lines_of_the_second(alloc, whole_store(alloc))?;
     assert_eq!(rt;
         (
             lines,
@@ -609,12 +633,12 @@ fn a_round_is_cut_where_nobody_goes_on(rt: HostRuntime) -> Result<()> {
         alloc,
         whole_store(alloc),
         "begin / insert 5 a / commit | begin / insert 6 b / commit | checkpoint",
-    )?;
-    assert_eq!(rt;
-        said.as_str(),
-        "1 begin 2 / 1 aborted / 2 begin 3 / 2 insert ok / 2 commit ok / 3 checkpoint 1"
     );
-    Ok(())
+    check_said(
+        &rt,
+        said,
+        "1 begin 2 / 1 aborted / 2 begin 3 / 2 insert ok / 2 commit ok / 3 checkpoint 1",
+    )
 }
 
 // What is said behind a restart with a smaller limit, over a log to which a transaction with so many gets of a missing key
@@ -657,21 +681,38 @@ fn an_audit_is_refused_a_megabyte_past_the_limit(rt: HostRuntime) -> Result<()> 
         15_500,
         1_000,
         "begin / get 5 / commit / audit / checkpoint",
-    )?;
-    assert_eq!(rt;
-        said.as_str(),
-        "1 begin log full 1054037 1000 / 1 audit log full 1054037 1049576 / 1 checkpoint log full 1054037 1049576"
     );
-    Ok(())
+    check_said(
+        &rt,
+        said,
+        "1 begin log full 1054037 1000 / 1 audit log full 1054037 1049576 / 1 checkpoint log full 1054037 1049576",
+    )
 }
 
-// The numbers from 1 to this one.
-fn counted_to(alloc: Global, last: u32) -> Result<Vec<u32>> {
-    let mut numbers = Vec::new(alloc);
-    for number in 1..=last {
-        numbers.push(number)?;
+// The last of these points, which are the numbers from 1 on; none where they aren't.
+fn last_of(points: &[u32]) -> Option<u32> {
+    let mut last: u32 = 0;
+    for point in points {
+        if *point != last.saturating_add(1) {
+            return None;
+        }
+        last = *point;
     }
-    Ok(numbers)
+    Some(last)
+}
+
+// The last point that a gate is told of for a client alone.
+fn last_in<V: Store + Drop>(
+    alloc: Global,
+    store: V,
+    limit: u64,
+    text: &str,
+) -> Result<Option<u32>> {
+    let core = core_of(alloc, store, (1, 1), limit)?;
+    let gate = Recorder::new(alloc);
+    let (_core, _transcripts) = done(alloc, core, false, text, &gate)?;
+    let points = gate.points_of(1)?;
+    Ok(last_of(&points))
 }
 
 #[test]
@@ -687,27 +728,20 @@ fn the_gate_is_told_of_each_operation(rt: HostRuntime) -> Result<()> {
         // the log has no room for the insert's third one, and a fourth one takes back the second one
         (200, "begin / insert 1 a / commit", 4),
     ] {
-        let core = core_of(alloc, whole_store(alloc), (1, 1), limit)?;
-        let gate = Recorder::new(alloc);
-        let (_core, _transcripts) = done(alloc, core, false, text, &gate)?;
-        let points = gate.points_of(1)?;
-        assert_eq!(rt;
-            points.as_slice(),
-            counted_to(alloc, passed)?.as_slice(),
-            "{text}"
-        );
+        let last = last_in(alloc, whole_store(alloc), limit, text)?;
+        assert_eq!(rt; last, Some(passed), "{text}");
     }
     Ok(())
 }
 
-// What the clients of two blocks say that stand in this order, and the points that a gate is told of for one of them.
+// What the clients of two blocks say that stand in this order, and the last point that a gate is told of for one of them.
 fn said_beside<V: Store + Drop>(
     alloc: Global,
     store: V,
     first: Block,
     second: Block,
     client: u32,
-) -> Result<(Vec<Transcript>, Vec<u32>)> {
+) -> Result<(String, Option<u32>)> {
     let core = core_of(alloc, store, (1, 1), 1_000_000)?;
     if !may_be_beside(&first, &second) {
         anyhow::bail!("no blocks");
@@ -721,37 +755,32 @@ fn said_beside<V: Store + Drop>(
     if !is_left_clean(alloc, &mut core, number, &transcripts)? {
         anyhow::bail!("not left clean");
     }
-    Ok((transcripts, gate.points_of(client)?))
+    let points = gate.points_of(client)?;
+    Ok((text_of(alloc, &transcripts)?, last_of(&points)))
 }
 
-// The block with the greater number stands first: each client goes through its own, and the gate counts each one's operations
-// by themselves.
+// So where the block with the greater number stands first.
+fn said_in_any_order(alloc: Global, client: u32) -> Result<(String, Option<u32>)> {
+    // three operations of the insert, and two of the get
+    let first = block(alloc, 9, "begin / insert 5 a / get 5 / commit")?;
+    let second = block(alloc, 4, "begin / insert 6 b / commit")?;
+    said_beside(alloc, whole_store(alloc), first, second, client)
+}
+
+// Each client goes through its own block, and the gate counts each one's operations by themselves.
 #[test]
 fn blocks_stand_in_any_order(rt: HostRuntime) -> Result<()> {
-    let alloc = rt.alloc();
     for (client, operations) in [(9, 5), (4, 3), (1, 0)] {
-        let (transcripts, points) = said_beside(
-            alloc,
-            whole_store(alloc),
-            // three of the insert, and two of the get
-            block(alloc, 9, "begin / insert 5 a / get 5 / commit")?,
-            block(alloc, 4, "begin / insert 6 b / commit")?,
-            client,
-        )?;
+        let (said, last) = said_in_any_order(rt.alloc(), client)?;
         assert_eq!(rt;
-            points.as_slice(),
-            counted_to(alloc, operations)?.as_slice(),
-            "{client}"
-        );
-        let said = text_of(alloc, &transcripts)?;
-        assert!(rt; said.starts_with("4 begin "), "{said}");
-        assert!(rt;
-            said.contains(" / 4 insert ok / 4 commit ok / 9 begin "),
-            "{said}"
-        );
-        assert!(rt;
-            said.ends_with(" / 9 insert ok / 9 got a / 9 commit ok"),
-            "{said}"
+            (
+                last,
+                said.starts_with("4 begin "),
+                said.contains(" / 4 insert ok / 4 commit ok / 9 begin "),
+                said.ends_with(" / 9 insert ok / 9 got a / 9 commit ok")
+            ),
+            (Some(operations), true, true, true),
+            "{client} {said}"
         );
     }
     Ok(())

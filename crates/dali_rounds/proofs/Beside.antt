@@ -19,7 +19,8 @@ use Rattle.dali_system.proofs.OneMore.{row_is}
 use Rattle.dali_crash.specs.Checkpoints.{Point}
 use Rattle.dali_crash.specs.Traces.{Start}
 use Rattle.dali_vault.specs.Vaulted.{Vaulted}
-use Rattle.dali_clean.specs.Others.{RowStays, HoldStays, OthersStay}
+use Rattle.dali_calls.specs.Others.{HoldStays}
+use Rattle.dali_clean.specs.Others.{RowStays, OthersStay}
 use Rattle.dali_stepwise.specs.Beside.{LeavesBe}
 use Rattle.dali_ends.specs.Stands.{StandsAt}
 use Rattle.dali_ends.proofs.Walking.{is_of_end}

@@ -29,17 +29,19 @@ use Rattle.dali_facts.specs.Ends.{HasBegun}
 use Rattle.dali_facts.proofs.Ends.{begin_follows, next_is_unbegun}
 use Rattle.dali_calls.specs.Plans.{Planned, is_back, mode_of}
 use Rattle.dali_calls.specs.Steps.{call_key}
-use Rattle.dali_single.specs.Operated.{IsOwn}
+use Rattle.dali_calls.specs.Operating.{IsOwn}
+use Rattle.dali_calls.specs.Others.{is_apart, HoldStays}
+use Rattle.dali_calls.proofs.Rows.{row_here, row_apart}
 use Rattle.dali_single.specs.Stands.{core, IsAtRest, AtPlan}
 use Rattle.dali_single.specs.Single.{MayCall, IsOwnStep, Leads}
 use Rattle.dali_single.proofs.Standing.{own_steps_stand}
 use Rattle.dali_courses.proofs.Making.{own_steps_make, answer_makes}
 use Rattle.dali_clean.specs.Undone.{IsReclaimed}
 use Rattle.dali_clean.specs.Cleaned.{moment, AreDead}
-use Rattle.dali_clean.specs.Others.{HoldStays, OthersStay}
-use Rattle.dali_clean.proofs.Courses.{one, runs_of, row_here, row_there}
+use Rattle.dali_clean.specs.Others.{OthersStay}
+use Rattle.dali_clean.proofs.Courses.{one, runs_of}
 use Rattle.dali_clean.proofs.Others.{release_others}
-use Rattle.dali_stepwise.specs.Beside.{is_apart, Grows}
+use Rattle.dali_stepwise.specs.Beside.{Grows}
 use Rattle.dali_stepwise.specs.Opened.{record_on}
 use Rattle.dali_stepwise.specs.Stepwise.{LeadsOnce, DiesIn}
 use Rattle.dali_stepwise.proofs.Waiting.{own_apart}
@@ -368,7 +370,7 @@ module _ {V : Type 0} (told : V → Option Disk) (may_leave : V → Disk → Typ
           inl (
             was.1 ∙ ap (λ (x : Option ℕ). Some (Dead x)) latched,
             let now : state_of (in_state (in_state y some.0.txn (Cleaning was.0)) some.0.txn (Dead None)) some.0.txn ≡ Some (Dead None) = twice was.0 was.1 in ap (λ (x : SystemState). state_of x some.0.txn) was.2 ∙ now,
-            λ u away. ap (λ (x : SystemState). row_of x u) was.2 ∙ (row_there (in_state y some.0.txn (Cleaning was.0)).table some.0.txn u (with_state (Dead None)) away ∙ row_there y.table some.0.txn u (with_state (Cleaning was.0)) away),
+            λ u away. ap (λ (x : SystemState). row_of x u) was.2 ∙ (row_apart (in_state y some.0.txn (Cleaning was.0)).table some.0.txn u (with_state (Dead None)) away ∙ row_apart y.table some.0.txn u (with_state (Cleaning was.0)) away),
           )
         where
           mapped : (st : State) (row : Option TxnRow) (old : State) → state_in row ≡ Some old → state_in (option_map (with_state st) row) ≡ Some st

@@ -22,13 +22,13 @@ use Rattle.dali_system.specs.Courses.{Step, TakesBack, Ends, OnRegion, Claims, G
 use Rattle.dali_crash.specs.Checkpoints.{Point}
 use Rattle.dali_crash.specs.Traces.{Start, bases_of}
 use Rattle.dali_vault.specs.Vaulted.{Vaulted}
+use Rattle.dali_calls.proofs.Others.{ended_gone}
+use Rattle.dali_calls.proofs.Rows.{row_here, row_apart}
 use Rattle.dali_single.specs.Ending.{IsBackOf}
-use Rattle.dali_single.proofs.Undoing.{ended_gone}
 use Rattle.dali_clean.specs.Steps.{is_own_step, IsCleanUp, AreBeside}
 use Rattle.dali_clean.specs.Cleaned.{moment, AreDead, IsEnded, IsGivenBack, Led}
 use Rattle.dali_clean.proofs.Steps.{own_steps}
 use Rattle.dali_clean.specs.Others.{OthersStay}
-use Rattle.dali_clean.proofs.Courses.{row_here, row_there}
 use Rattle.dali_ends.specs.Stands.{StandsAt}
 use Rattle.dali_ends.proofs.Walking.{is_of_end, own_change}
 use Rattle.dali_ends.proofs.Standing.{run_at, arrive}
@@ -65,7 +65,7 @@ kept_there y u t f = by_test (u == t) refl
     by_test true e =
         let same : u ≡ t = (Decides-eqb u t).0 e in
         subst (λ (n : ℕ). is_some (map.get (with_row y.table u f) n) ≡ is_some (map.get y.table n)) same (ap is_some (row_here y.table u f) ∙ mapped_there (map.get y.table u) f)
-    by_test false e = ap is_some (row_there y.table u t f e)
+    by_test false e = ap is_some (row_apart y.table u t f e)
 
 -- what one step leaves: the row stays or not, and what is logged
 abbrev IsSame : ℕ → List Record → SystemState → List Record → SystemState → Type 0

@@ -17,6 +17,7 @@ use Rattle.dali_system.specs.Steps.{commit_logged}
 use Rattle.dali_system.specs.Courses.{Commits, Takes, Flushes, Faults, Stops}
 use Rattle.dali_crash.specs.Checkpoints.{Point, Does, IsPointCourse, moment_of}
 use Rattle.dali_crash.specs.Traces.{Start, bases_of}
+use Rattle.dali_crash.proofs.Courses.{flush_logs_none}
 use Rattle.dali_vault.specs.Vaulted.{Vaulted}
 use Rattle.dali_single.specs.Single.{MayCall}
 use Rattle.dali_single.specs.Ending.{IsBackOf}
@@ -27,7 +28,6 @@ use Rattle.dali_stepwise.proofs.Waiting.{call_waits}
 use Rattle.dali_ends.specs.Stands.{StandsAt}
 use Rattle.dali_ends.specs.Ended.{HasCome}
 use Rattle.dali_ends.specs.Committed.{IsLogged}
-use Rattle.dali_ends.proofs.Durable.{flush_logs_none}
 use Rattle.dali_ends.proofs.Standing.{come_of_end}
 use Rattle.dali_ends.proofs.Wholes.{core_course, whole_here}
 use Rattle.dali_rounds.specs.Went.{is_open, Went, AreBetween}

@@ -19,10 +19,10 @@ use Rattle.dali_facts.specs.Plans.{AtWork}
 use Rattle.dali_facts.proofs.OlderRows.{rows_are_older}
 use Rattle.dali_steps.specs.Courses.{WentOn}
 use Rattle.dali_steps.proofs.Courses.{quiet_course}
-use Rattle.dali_single.specs.Stands.{AtPlan}
-use Rattle.dali_single.specs.Single.{MayCall}
 use Rattle.dali_calls.specs.Plans.{Planned}
 use Rattle.dali_calls.specs.Followed.{HoldsCall}
+use Rattle.dali_single.specs.Stands.{AtPlan}
+use Rattle.dali_single.specs.Single.{MayCall}
 use Rattle.dali_clean.specs.Cleaned.{moment, AreDead}
 use Rattle.dali_clean.proofs.Courses.{runs_of}
 use Rattle.dali_stepwise.specs.Beside.{LeavesBe}
@@ -77,7 +77,7 @@ dead_set gs r g h at dead one q k there = by_test (r == q) refl
     by_test false e = dead q k (sym (get_set_other gs r h q (apart e)) ∙ there)
 
 -- who is live or committed has a row
-open_row : (o : Option TxnRow) → is_open (state_in o) ≡ true → IsSome o
+pub open_row : (o : Option TxnRow) → is_open (state_in o) ≡ true → IsSome o
 open_row None begun = absurd (cc)
 open_row (Some row) begun = refl
 

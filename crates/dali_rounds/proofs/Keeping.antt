@@ -9,9 +9,9 @@ use Rattle.dali_att.proofs.Changes.{get-added}
 use Rattle.dali_store.specs.Store.{Files as Disk}
 use Rattle.dali_system.specs.State.{TxnRow, SystemState, row_of, state_of, state_in}
 use Rattle.dali_system.specs.Steps.{begun, in_state}
+use Rattle.dali_calls.proofs.Rows.{row_here}
 use Rattle.dali_single.specs.Stands.{core}
 use Rattle.dali_single.specs.Single.{MayCall, OthersStay as RowsStay}
-use Rattle.dali_clean.proofs.Courses.{row_here}
 use Rattle.dali_rounds.specs.Keeps.{BeginKeeps, PerformKeeps, DieKeeps, CleanKeeps}
 use Rattle.dali_rounds.proofs.Going.{may_at, between_goes}
 use Rattle.dali_rounds.proofs.Calls.{begin_goes, perform_goes, die_goes}

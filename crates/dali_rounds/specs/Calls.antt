@@ -28,12 +28,13 @@ use Rattle.dali_crash.specs.Checkpoints.{Point}
 use Rattle.dali_crash.specs.Traces.{Start}
 use Rattle.dali_vault.specs.Vaulted.{Vaulted}
 use Rattle.dali_calls.specs.Plans.{Planned, is_back}
+use Rattle.dali_calls.specs.Others.{IsGone}
 use Rattle.dali_single.specs.Stands.{core, IsAtRest, AtPlan}
 use Rattle.dali_single.specs.Single.{MayCall, IsAnswered}
 use Rattle.dali_single.specs.Ending.{IsBackOf}
 use Rattle.dali_clean.specs.Undone.{Released}
 use Rattle.dali_clean.specs.Cleaned.{AreDead, IsDead, Ends, GivesBack}
-use Rattle.dali_clean.specs.Others.{OthersStay, IsGone}
+use Rattle.dali_clean.specs.Others.{OthersStay}
 use Rattle.dali_clean.specs.Steps.{IsCleanUp, AreBeside}
 use Rattle.dali_stepwise.specs.Beside.{LeavesBe}
 use Rattle.dali_stepwise.specs.Opened.{record_on}

@@ -14,11 +14,12 @@ use Rattle.dali_system.specs.Steps.{begun}
 use Rattle.dali_system.specs.Keeps.{HasRoom}
 use Rattle.dali_vault.specs.Vaulted.{Vaulted}
 use Rattle.dali_calls.specs.Plans.{Planned}
+use Rattle.dali_calls.specs.Others.{IsGone}
 use Rattle.dali_single.specs.Stands.{core}
 use Rattle.dali_single.specs.Single.{MayCall, IsAnswered, OthersStay as RowsStay}
 use Rattle.dali_single.specs.Ending.{IsBackOf}
 use Rattle.dali_clean.specs.Cleaned.{AreDead, IsDead, Ends}
-use Rattle.dali_clean.specs.Others.{OthersStay, IsGone}
+use Rattle.dali_clean.specs.Others.{OthersStay}
 use Rattle.dali_stepwise.specs.Stepwise.{IsDeath}
 use Rattle.dali_ends.specs.Ended.{Comes}
 use Rattle.dali_ends.specs.Committed.{CommitGoes, CommitFails}

@@ -22,9 +22,10 @@ use Rattle.dali_crash.specs.Traces.{Start}
 use Rattle.dali_vault.specs.Vaulted.{Vaulted}
 use Rattle.dali_steps.specs.Courses.{is_quiet}
 use Rattle.dali_steps.specs.Called.{KeepsImage}
+use Rattle.dali_calls.specs.Others.{is_apart}
 use Rattle.dali_single.specs.Single.{MayCall}
 use Rattle.dali_clean.specs.Cleaned.{moment, AreDead}
-use Rattle.dali_stepwise.specs.Beside.{is_apart, LeavesBe}
+use Rattle.dali_stepwise.specs.Beside.{LeavesBe}
 use Rattle.dali_whole.specs.Cores.{HoldsPlaces, IsWholeCore}
 use Rattle.dali_ends.specs.Stands.{StandsAt, IsUp, IsBetween}
 

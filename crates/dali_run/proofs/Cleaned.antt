@@ -4,13 +4,14 @@ use Rattle.std.specs.Prelude.{◌==◌, ◌&&◌, ◌||◌, is_some}
 use Rattle.std.specs.FinMap as finite
 use Rattle.std.proofs.lemmas.Bool.{eqb-true}
 use Rattle.std.proofs.lemmas.List.{take_more}
+use Rattle.dali_history.proofs.Rising.{has_keys}
 use Rattle.dali_record.specs.Damage.{has}
 use Rattle.dali_record.proofs.Survivors.{has_filter}
 use Rattle.dali_region.specs.State.{RegionState}
 use Rattle.dali_att.specs.declared.state.State.{State}
 use Rattle.dali_att.specs.declared.state.State.TheVariants.{Dead}
 use Rattle.dali_memstore.specs.declared.fuse.Fuse.{Fuse}
-use Rattle.dali_store.specs.Store.{Files}
+use Rattle.dali_store.specs.declared.store.Store.{Ghosts}
 use Rattle.dali_system.specs.declared.causes.Cause.{Cause}
 use Rattle.dali_system.specs.State.{SystemState, TxnRow, row_of, state_in, state_of}
 use Rattle.dali_transcripts.specs.World.{is_dead_in}
@@ -22,7 +23,6 @@ use Rattle.dali_report.specs.Lines.{texts}
 use Rattle.dali_report.specs.declared.printed.Line.TheVariants as lines
 use Rattle.dali_run.specs.declared.program.Program.TheVariants.{Up}
 use Rattle.dali_run.specs.Steps.{dead_in, IsSame, HasCleanedUp, CleansUp, CleansAll, CleanupIn, HasCleaned, Lists, ShowIn}
-use Rattle.dali_checkpoint.proofs.Rows.{has_keys}
 
 -- ---- who is dead
 
@@ -43,8 +43,8 @@ row_dead : (gs hs : List RegionState) (y z : SystemState) (t : ℕ) → RowStays
 row_dead gs hs y z t (inl same) dead = (dead.0, sym (ap state_in same) ∙ dead.1)
 row_dead gs hs y z t (inr freed) dead = freed.0
 
-module _ {V : Type 0} (told : V → Option Files) (may_leave : V → Files → Type 0) (faults : V → ℕ) where
-  after_it : (u t : ℕ) (c d : Core (Fuse V)) (same : Bool) → (u == t) ≡ same → HasCleanedUp told may_leave faults u c d → IsDead (state_of d.system.state t)
+module _ {V : Type 0} (g : Ghosts V) where
+  after_it : (u t : ℕ) (c d : Core (Fuse V)) (same : Bool) → (u == t) ≡ same → HasCleanedUp g u c d → IsDead (state_of d.system.state t)
       → IsDead (state_of c.system.state t) × (same ≡ false)
   after_it u t c d true is one dead =
       let gone : state_of d.system.state t ≡ None = subst (λ (x : ℕ). state_of d.system.state x ≡ None) (eqb-true u t is) (ap state_in one.gone.0) in
@@ -54,7 +54,7 @@ module _ {V : Type 0} (told : V → Option Files) (may_leave : V → Files → T
   same_dead : (c d : Core (Fuse V)) (t : ℕ) → IsSame c d → IsDead (state_of d.system.state t) → IsDead (state_of c.system.state t)
   same_dead c d t same dead = subst (λ (s : Served). IsDead (state_of s.state t)) same.system dead
 
-  after_one : (u t : ℕ) (c d : Core (Fuse V)) → CleansUp told may_leave faults u c d → IsDead (state_of d.system.state t)
+  after_one : (u t : ℕ) (c d : Core (Fuse V)) → CleansUp g u c d → IsDead (state_of d.system.state t)
       → IsDead (state_of c.system.state t) × ((u == t) ≡ false)
   after_one u t c d (inl one) dead =
       let two = after_it u t c d (u == t) refl one dead in (two.0, two.1)
@@ -68,7 +68,7 @@ module _ {V : Type 0} (told : V → Option Files) (may_leave : V → Files → T
       by_test false is = (was, is)
 
   -- who is dead behind them was dead before, and is none of them
-  after_all : (ts : List ℕ) (t : ℕ) (c d : Core (Fuse V)) → CleansAll told may_leave faults ts c d → IsDead (state_of d.system.state t)
+  after_all : (ts : List ℕ) (t : ℕ) (c d : Core (Fuse V)) → CleansAll g ts c d → IsDead (state_of d.system.state t)
       → IsDead (state_of c.system.state t) × (has ts t ≡ false)
   after_all [] t c d same dead = (subst (λ (x : Core (Fuse V)). IsDead (state_of x.system.state t)) same dead, refl)
   after_all (u ∷ us) t c d all dead =
@@ -76,9 +76,9 @@ module _ {V : Type 0} (told : V → Option Files) (may_leave : V → Files → T
       let one = after_one u t c all.0 all.1 later.0 in
       (one.0, ap (λ (b : Bool). b || has us t) one.1 ∙ later.1)
 
-  pub has_cleaned : (ts : List ℕ) (c d : Core (Fuse V)) → ts ≡ dead_in c.system.state → CleansAll told may_leave faults ts c d → HasCleaned told may_leave faults c d
+  pub has_cleaned : (ts : List ℕ) (c d : Core (Fuse V)) → ts ≡ dead_in c.system.state → CleansAll g ts c d → HasCleaned g c d
   has_cleaned ts c d is all =
-      let each : CleansAll told may_leave faults (dead_in c.system.state) c d = subst (λ (l : List ℕ). CleansAll told may_leave faults l c d) is all in
+      let each : CleansAll g (dead_in c.system.state) c d = subst (λ (l : List ℕ). CleansAll g l c d) is all in
       record {
         each = each;
         none = λ t dead.
@@ -87,23 +87,23 @@ module _ {V : Type 0} (told : V → Option Files) (may_leave : V → Files → T
             let clash : true ≡ false = sym there ∙ two.1 in absurd cc;
       }
 
-  cleans_more : (ts : List ℕ) (t : ℕ) (c m d : Core (Fuse V)) → CleansAll told may_leave faults ts c m → CleansUp told may_leave faults t m d
-      → CleansAll told may_leave faults (ts ++ t ∷ []) c d
-  cleans_more [] t c m d same one = (d, subst (λ (x : Core (Fuse V)). CleansUp told may_leave faults t x d) same one, refl)
+  cleans_more : (ts : List ℕ) (t : ℕ) (c m d : Core (Fuse V)) → CleansAll g ts c m → CleansUp g t m d
+      → CleansAll g (ts ++ t ∷ []) c d
+  cleans_more [] t c m d same one = (d, subst (λ (x : Core (Fuse V)). CleansUp g t x d) same one, refl)
   cleans_more (u ∷ us) t c m d all one = (all.0, all.1, cleans_more us t all.0 m d all.2 one)
 
-  pub cleans_on : (ts : List ℕ) (i e : ℕ) (c m d : Core (Fuse V)) → i < length ts → CleansAll told may_leave faults (take i ts) c m
-      → CleansUp told may_leave faults (slice_index_or ts i e) m d → CleansAll told may_leave faults (take (i + 1) ts) c d
+  pub cleans_on : (ts : List ℕ) (i e : ℕ) (c m d : Core (Fuse V)) → i < length ts → CleansAll g (take i ts) c m
+      → CleansUp g (slice_index_or ts i e) m d → CleansAll g (take (i + 1) ts) c d
   cleans_on ts i e c m d within all one =
-      subst (λ (l : List ℕ). CleansAll told may_leave faults l c d) (sym (take_more ts i e within)) (cleans_more (take i ts) (slice_index_or ts i e) c m d all one)
+      subst (λ (l : List ℕ). CleansAll g l c d) (sym (take_more ts i e within)) (cleans_more (take i ts) (slice_index_or ts i e) c m d all one)
 
   -- ---- the commands that begin with it, of an engine that runs
-  pub cleanup_none : (stop : Option Cause) (c d : Core (Fuse V)) (ts text : List ℕ) → stop ≡ None → ts ≡ dead_in c.system.state → HasCleaned told may_leave faults c d
-      → text ≡ texts (lines.Cleaned ts ∷ []) → CleanupIn told may_leave faults stop c text (Up d)
+  pub cleanup_none : (stop : Option Cause) (c d : Core (Fuse V)) (ts text : List ℕ) → stop ≡ None → ts ≡ dead_in c.system.state → HasCleaned g c d
+      → text ≡ texts (lines.Cleaned ts ∷ []) → CleanupIn g stop c text (Up d)
   cleanup_none stop c d ts text runs is cleaned printed =
-      subst (λ (o : Option Cause). CleanupIn told may_leave faults o c text (Up d)) (sym runs)
+      subst (λ (o : Option Cause). CleanupIn g o c text (Up d)) (sym runs)
       (d, cleaned, refl, printed ∙ ap (λ (l : List ℕ). texts (lines.Cleaned l ∷ [])) is)
 
-  pub show_none : (stop : Option Cause) (c d : Core (Fuse V)) (text : List ℕ) → stop ≡ None → HasCleaned told may_leave faults c d → Lists d text
-      → ShowIn told may_leave faults stop c text (Up d)
-  show_none stop c d text runs cleaned lists = subst (λ (o : Option Cause). ShowIn told may_leave faults o c text (Up d)) (sym runs) (d, cleaned, refl, lists)
+  pub show_none : (stop : Option Cause) (c d : Core (Fuse V)) (text : List ℕ) → stop ≡ None → HasCleaned g c d → Lists d text
+      → ShowIn g stop c text (Up d)
+  show_none stop c d text runs cleaned lists = subst (λ (o : Option Cause). ShowIn g o c text (Up d)) (sym runs) (d, cleaned, refl, lists)

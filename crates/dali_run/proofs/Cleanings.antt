@@ -19,7 +19,7 @@ use Rattle.dali_record.specs.declared.records.Record.{Record}
 use Rattle.dali_region.specs.declared.Hold.{Hold}
 use Rattle.dali_region.specs.State.{RegionState}
 use Rattle.dali_round.specs.Leads.{BeginsAt}
-use Rattle.dali_store.specs.Store.{Files as Disk}
+use Rattle.dali_store.specs.declared.store.Store.{Ghosts}
 use Rattle.dali_system.specs.Courses.{Step}
 use Rattle.dali_system.specs.State.{SystemState, TxnRow, row_of, state_in, state_of}
 use Rattle.dali_transcripts.specs.Rounds.{IsBetween}
@@ -65,11 +65,11 @@ flags_go (x ∷ xs) p q course tells =
     let rest = flags_go xs course.0 q course.2 (flag_stays p course.0 (Does x) tells course.1) in
     (rest.0, rest.1 ∙ flag_changes p course.0 (Does x) course.1)
 
-module _ {V : Type 0} (told : V → Option Disk) (may_leave : V → Disk → Type 0) (faults : V → ℕ) where
+module _ {V : Type 0} (g : Ghosts V) where
   abbrev pub At : Start → List (List Record) → Point → List RegionState → SystemState → Vaulted (Fuse V) → Type 0
-  At s B p gs y v = BeginsAt (told_in told) (leaves_in may_leave) (faults_in faults) s B p gs y v
+  At s B p gs y v = BeginsAt (told_in g) (leaves_in g) (faults_in g) s B p gs y v
 
-  all_dead : (u : ℕ) (c d : Core (Fuse V)) → HasCleanedUp told may_leave faults u c d → AllDead c.system.state → AllDead d.system.state
+  all_dead : (u : ℕ) (c d : Core (Fuse V)) → HasCleanedUp g u c d → AllDead c.system.state → AllDead d.system.state
   all_dead u c d one all = λ t some. by_test t some (u == t) refl
     where
       by_test : (t : ℕ) → IsSome (row_of d.system.state t) → (b : Bool) → (u == t) ≡ b → is_dead_in (state_of d.system.state t) ≡ true
@@ -93,14 +93,14 @@ module _ {V : Type 0} (told : V → Option Disk) (may_leave : V → Disk → Typ
       record {
         rests = record {
           stopped = λ e. let clash : true ≡ false = sym e ∙ runs in absurd cc;
-          holds = λ r g at live. none_live g.hold (dead r g (subst (λ (l : List RegionState). slice_get l r ≡ Some g) regions at)) live;
+          holds = λ r x at live. none_live x.hold (dead r x (subst (λ (l : List RegionState). slice_get l r ≡ Some x) regions at)) live;
           flag = flag ∙ was.rests.flag;
           free = λ t. free_so (row_of q.core.system t) (there t);
         };
         idle = λ up. there;
       }
 
-  cleaned_up : (s : Start) (B : List (List Record)) (p : Point) (t : ℕ) (c d : Core (Fuse V)) → HasCleanedUp told may_leave faults t c d → At s B p c.regions.items c.system.state c.vault
+  cleaned_up : (s : Start) (B : List (List Record)) (p : Point) (t : ℕ) (c d : Core (Fuse V)) → HasCleanedUp g t c d → At s B p c.regions.items c.system.state c.vault
       → AllDead c.system.state → c.vault.stopped ≡ false → Moved s B p d
   cleaned_up s B p t c d one begins all runs =
       let at = one.ends s B p begins.stands.at begins.stands.whole in
@@ -114,13 +114,13 @@ module _ {V : Type 0} (told : V → Option Disk) (may_leave : V → Disk → Typ
         begins = record {
           stands = record {
             at =
-                subst (λ (w : Vaulted (Fuse V)). IsCoreAt (told_in told) (leaves_in may_leave) (faults_in faults) s B at.to d.regions.items d.system.state w) (sym one.vault) at.at;
+                subst (λ (w : Vaulted (Fuse V)). IsCoreAt (told_in g) (leaves_in g) (faults_in g) s B at.to d.regions.items d.system.state w) (sym one.vault) at.at;
             whole = at.whole;
             dead = dead;
           };
           files =
-              flags_hold (told_in told d.vault.store) c.regions.items d.regions.items one.flags
-              (subst (λ (w : Vaulted (Fuse V)). IfSome (told_in told w.store) (HoldsPlaces c.regions.items)) (sym one.vault) begins.files);
+              flags_hold (told_in g d.vault.store) c.regions.items d.regions.items one.flags
+              (subst (λ (w : Vaulted (Fuse V)). IfSome (told_in g w.store) (HoldsPlaces c.regions.items)) (sym one.vault) begins.files);
           keeps = flags.0;
           between = between_so p at.to d at.at.regions at.at.system (at.at.vault.vault.stopped ∙ runs) flags.1 begins.between dead here;
         };
@@ -133,7 +133,7 @@ module _ {V : Type 0} (told : V → Option Disk) (may_leave : V → Disk → Typ
       subst (λ (w : Vaulted (Fuse V)). At s B p d.regions.items d.system.state w) (sym same.vault)
       (subst (λ (y : Served). At s B p d.regions.items y.state c.vault) (sym same.system) (subst (λ (gs : List RegionState). At s B p gs c.system.state c.vault) (sym same.regions) begins))
 
-  pub moved_one : (s : Start) (B : List (List Record)) (p : Point) (t : ℕ) (c d : Core (Fuse V)) → CleansUp told may_leave faults t c d → At s B p c.regions.items c.system.state c.vault
+  pub moved_one : (s : Start) (B : List (List Record)) (p : Point) (t : ℕ) (c d : Core (Fuse V)) → CleansUp g t c d → At s B p c.regions.items c.system.state c.vault
       → AllDead c.system.state → c.vault.stopped ≡ false → Moved s B p d × (d.vault.stopped ≡ false)
   moved_one s B p t c d (inl one) begins all runs = (cleaned_up s B p t c d one begins all runs, ap (λ (w : Vaulted (Fuse V)). w.stopped) one.vault ∙ runs)
   moved_one s B p t c d (inr none) begins all runs = (
@@ -147,7 +147,7 @@ module _ {V : Type 0} (told : V → Option Disk) (may_leave : V → Disk → Typ
     ap (λ (w : Vaulted (Fuse V)). w.stopped) none.1.vault ∙ runs,
   )
 
-  pub moved_all : (ts : List ℕ) (s : Start) (B : List (List Record)) (p : Point) (c d : Core (Fuse V)) → CleansAll told may_leave faults ts c d → At s B p c.regions.items c.system.state c.vault
+  pub moved_all : (ts : List ℕ) (s : Start) (B : List (List Record)) (p : Point) (c d : Core (Fuse V)) → CleansAll g ts c d → At s B p c.regions.items c.system.state c.vault
       → AllDead c.system.state → c.vault.stopped ≡ false → Moved s B p d
   moved_all [] s B p c d same begins all runs =
       subst (Moved s B p) (sym same) (record { to = p; steps = []; course = refl; begins = begins; dead = all })

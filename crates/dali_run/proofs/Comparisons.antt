@@ -2,7 +2,7 @@
 use Rattle.std.proofs.Common.{◌≡◌, ℕ, Bool, List, Option, Some, None, Result, Err, refl, sym, ◌∙◌, ap}
 use Rattle.std.specs.Prelude.{IsErrOf}
 use Rattle.dali_memstore.specs.declared.fuse.Fuse.{Fuse}
-use Rattle.dali_store.specs.Store.{Files}
+use Rattle.dali_store.specs.declared.store.Store.{Ghosts}
 use Rattle.dali_system.specs.declared.causes.Cause.{Cause}
 use Rattle.dali_verify.specs.declared.error.VerifyError.{VerifyError}
 use Rattle.dali_verify.specs.declared.error.VerifyError.TheVariants.{Fault, BadLog}
@@ -17,8 +17,8 @@ is_other at e = cc
 pub bad_log : (r : Result Bool VerifyError) (e : VerifyError) (at : ℕ) → r ≡ Err e → e ≡ BadLog at → IsErrOf r Fault → ⊥
 bad_log r e at is bad fault = is_other at (sym (is ∙ ap Err bad) ∙ fault)
 
-module _ {V : Type 0} (told : V → Option Files) (may_leave : V → Files → Type 0) (moment : V → ℕ) (left_since : V → ℕ → Files → Type 0) (faults : V → ℕ) where
-  pub verify_none : (stop : Option Cause) (core c d : Core (Fuse V)) (text : List ℕ) → stop ≡ None → HasCleaned told may_leave faults core c
-      → EndsComparison told may_leave moment left_since faults c text d → VerifyIn told may_leave moment left_since faults stop core text (Up d)
+module _ {V : Type 0} (g : Ghosts V) where
+  pub verify_none : (stop : Option Cause) (core c d : Core (Fuse V)) (text : List ℕ) → stop ≡ None → HasCleaned g core c
+      → EndsComparison g c text d → VerifyIn g stop core text (Up d)
   verify_none None core c d text is cleaned ends = (c, d, cleaned, ends, refl)
   verify_none (Some cause) core c d text is cleaned ends = absurd (cc)

@@ -15,6 +15,7 @@ use Rattle.dali_script.proofs.Outcomes.{never_both, one_script}
 use Rattle.dali_script.proofs.RightScripts.{right_script}
 use Rattle.dali_store.specs.Store.{Files as Disk}
 use Rattle.dali_store.proofs.Causes.{rose_before}
+use Rattle.dali_store.specs.declared.store.Store.{Ghosts}
 use Rattle.dali_streams.specs.Streams.{ReadAll, ReadTooMany}
 use Rattle.dali_run.specs.declared.halt.Halt.TheVariants as halts
 use Rattle.dali_run.specs.declared.program.Program.{Program}
@@ -66,85 +67,85 @@ some_first : (base L : List Record) → BeginsWith base L → L ≡ [] → 0 < l
 some_first [] L begins none some = omega (arith, some)
 some_first (x ∷ base) L begins none some = let clash : x ∷ base ++ begins.0 ≡ [] = sym begins.1 ∙ none in absurd cc
 
-module _ {V : Type 0} (told : V → Option Disk) (may_leave : V → Disk → Type 0) (moment : V → ℕ) (left_since : V → ℕ → Disk → Type 0) (faults : V → ℕ)
-    (reads_now : (s : V) → IfSome (told s) (λ fs. may_leave s fs)) (counts_now : (s : V) (t : ℕ) (c : Disk) → t ≤ moment s → may_leave s c → left_since s t c)
-    (limit : ℕ) (cuts : V → ℕ → Option Disk) (precheck : Bool) where
+module _ {V : Type 0} (g : Ghosts V)
+    (reads_now : (s : V) → IfSome (g.told s) (λ fs. g.may_leave s fs)) (counts_now : (s : V) (t : ℕ) (c : Disk) → t ≤ g.moment s → g.may_leave s c → g.left_since s t c)
+    (limit : ℕ) (precheck : Bool) where
   -- before the first command the store is the one that was handed in
-  at_first : (start : V) (script : List Command) (text : List ℕ) (new : Program V) → HasRun told may_leave moment left_since faults limit cuts precheck start script 0 text new → inner (store_of new) ≡ start
+  at_first : (start : V) (script : List Command) (text : List ℕ) (new : Program V) → HasRun g limit precheck start script 0 text new → inner (store_of new) ≡ start
   at_first start script text new run = ap (λ (p : Program V). inner (store_of p)) (run.runs.1 ∙ run.down.down) ∙ run.down.store_is
 
-  unfused_at_first : (start : V) (script : List Command) (text : List ℕ) (new : Program V) → HasRun told may_leave moment left_since faults limit cuts precheck start script 0 text new → passes_of (store_of new) ≡ None
+  unfused_at_first : (start : V) (script : List Command) (text : List ℕ) (new : Program V) → HasRun g limit precheck start script 0 text new → passes_of (store_of new) ≡ None
   unfused_at_first start script text new run = ap (λ (p : Program V). passes_of (store_of p)) (run.runs.1 ∙ run.down.down) ∙ run.down.unfused.passes
 
   is_no_database : (o : Option Disk) → is_some o ≡ true → IfSome o (λ fs. IsUnformatted fs.log) → IfSome o (λ fs. IsUnformatted fs.log → ⊥) → ⊥
   is_no_database None tells none some = absurd cc
   is_no_database (Some fs) tells none some = some none
 
-  module _ (c : Course V) (base : List Record) (own : IsOwn told may_leave base c.store) where
-    never_formatted : (script : List Command) (n : ℕ) (x : Command) (text : List ℕ) (state : Program V) → BeginsOnce script → FindsItsGate told base script c.store
-        → take (n + 1) script ≡ take n script ++ x ∷ [] → IsSize x → HasRun told may_leave moment left_since faults limit cuts precheck c.store script n text state
-        → IfSome (told (inner (store_of state))) (λ fs. IsUnformatted fs.log → ⊥) → ⊥
+  module _ (c : Course V) (base : List Record) (own : IsOwn g base c.store) where
+    never_formatted : (script : List Command) (n : ℕ) (x : Command) (text : List ℕ) (state : Program V) → BeginsOnce script → FindsItsGate g base script c.store
+        → take (n + 1) script ≡ take n script ++ x ∷ [] → IsSize x → HasRun g limit precheck c.store script n text state
+        → IfSome (g.told (inner (store_of state))) (λ fs. IsUnformatted fs.log → ⊥) → ⊥
     never_formatted [] n x text state once gate next is run some = once
     never_formatted (first ∷ later) n x text state once gate next is run some =
         let more : n + 1 ≡ suc n = omega arith in
         let zero_is : n ≡ 0 = size_is_first (first ∷ later) n x once (subst (λ (m : ℕ). take m (first ∷ later) ≡ take n (first ∷ later) ++ x ∷ []) more next) is in
-        let run0 = subst (λ (m : ℕ). HasRun told may_leave moment left_since faults limit cuts precheck c.store (first ∷ later) m text state) zero_is run in
+        let run0 = subst (λ (m : ℕ). HasRun g limit precheck c.store (first ∷ later) m text state) zero_is run in
         let next0 = subst (λ (m : ℕ). take (m + 1) (first ∷ later) ≡ take m (first ∷ later) ++ x ∷ []) zero_is next in
         by_first first x later gate (first_is first x later next0) is
-        (subst (λ (s : V). IfSome (told s) (λ fs. IsUnformatted fs.log → ⊥)) (at_first c.store (first ∷ later) text state run0) some)
+        (subst (λ (s : V). IfSome (g.told s) (λ fs. IsUnformatted fs.log → ⊥)) (at_first c.store (first ∷ later) text state run0) some)
       where
-        by_first : (first x : Command) (later : List Command) → FindsItsGate told base (first ∷ later) c.store → first ≡ x → IsSize x
-            → IfSome (told c.store) (λ fs. IsUnformatted fs.log → ⊥) → ⊥
-        by_first (Size index heap) x later gate same is some = is_no_database (told c.store) own.0 gate some
+        by_first : (first x : Command) (later : List Command) → FindsItsGate g base (first ∷ later) c.store → first ≡ x → IsSize x
+            → IfSome (g.told c.store) (λ fs. IsUnformatted fs.log → ⊥) → ⊥
+        by_first (Size index heap) x later gate same is some = is_no_database (g.told c.store) own.0 gate some
         by_first Open x later gate same is some = subst IsSize (sym same) is
         by_first _ x later gate same is some = gate
 
-    never_unformatted : (script : List Command) (n : ℕ) (x : Command) (text : List ℕ) (state : Program V) → BeginsOnce script → FindsItsGate told base script c.store
+    never_unformatted : (script : List Command) (n : ℕ) (x : Command) (text : List ℕ) (state : Program V) → BeginsOnce script → FindsItsGate g base script c.store
         → take (n + 1) script ≡ take n script ++ x ∷ [] → Opens x
-        → (run : HasRun told may_leave moment left_since faults limit cuts precheck c.store script n text state)
-        → NoneEscapeThere told may_leave moment left_since faults limit cuts precheck c.store script n text state run
-        → NoneEscapesRead told (SafeThere told may_leave moment left_since faults limit cuts precheck c.store script n text state run) state
-        → IfSome (told (inner (store_of state))) (λ fs. IsUnformatted fs.log) → ⊥
+        → (run : HasRun g limit precheck c.store script n text state)
+        → NoneEscapeThere g limit precheck c.store script n text state run
+        → NoneEscapesRead g (SafeThere g limit precheck c.store script n text state run) state
+        → IfSome (g.told (inner (store_of state))) (λ fs. IsUnformatted fs.log) → ⊥
     unfolding there
     never_unformatted [] n x text state once gate next is run honest last none = once
     never_unformatted (Open ∷ later) n x text state once gate next is run honest last none =
-        let gone = there told may_leave moment left_since faults reads_now counts_now limit cuts precheck base c.store (Open ∷ later) n text state run own honest in
-        let safe = SafeThere told may_leave moment left_since faults limit cuts precheck c.store (Open ∷ later) n text state run in
-        let empty = none_yet told may_leave moment left_since faults reads_now counts_now (NoneEscapesIn safe state) gone.log (inner (store_of state))
-        (own_store told may_leave faults safe gone.log state gone.point) last none in
+        let gone = there g reads_now counts_now limit precheck base c.store (Open ∷ later) n text state run own honest in
+        let safe = SafeThere g limit precheck c.store (Open ∷ later) n text state run in
+        let empty = none_yet g reads_now counts_now (NoneEscapesIn safe state) gone.log (inner (store_of state))
+        (own_store g safe gone.log state gone.point) last none in
         some_first base gone.log
-        (grows told may_leave moment left_since faults reads_now counts_now limit cuts precheck AnyFiles (take n (Open ∷ later)) base run.first
-        (begins_down told may_leave faults base run.first c.store run.down own) text state run.runs gone.log gone.each) empty gate
+        (grows g reads_now counts_now limit precheck AnyFiles (take n (Open ∷ later)) base run.first
+        (begins_down g base run.first c.store run.down own) text state run.runs gone.log gone.each) empty gate
     never_unformatted (Size index heap ∷ later) zero x text state once gate next is run honest last none =
         subst Opens (sym (first_is (Size index heap) x later next)) is
     never_unformatted (Size index heap ∷ later) (suc n) x text state once gate next is run honest last none =
-        let a = begins_down told may_leave faults base run.first c.store run.down own in
-        let gone = there told may_leave moment left_since faults reads_now counts_now limit cuts precheck base c.store (Size index heap ∷ later) (suc n) text state run own honest in
-        let safe = SafeThere told may_leave moment left_since faults limit cuts precheck c.store (Size index heap ∷ later) (suc n) text state run in
-        let empty = none_yet told may_leave moment left_since faults reads_now counts_now (NoneEscapesIn safe state) gone.log (inner (store_of state))
-        (own_store told may_leave faults safe gone.log state gone.point) last none in
+        let a = begins_down g base run.first c.store run.down own in
+        let gone = there g reads_now counts_now limit precheck base c.store (Size index heap ∷ later) (suc n) text state run own honest in
+        let safe = SafeThere g limit precheck c.store (Size index heap ∷ later) (suc n) text state run in
+        let empty = none_yet g reads_now counts_now (NoneEscapesIn safe state) gone.log (inner (store_of state))
+        (own_store g safe gone.log state gone.point) last none in
         some_first (first_record (sizes_of index heap) ∷ []) gone.log
-        (made_some told may_leave moment left_since faults reads_now counts_now limit cuts precheck AnyFiles index heap (take n later) base run.first text state run.runs a honest) empty (omega arith)
+        (made_some g reads_now counts_now limit precheck AnyFiles index heap (take n later) base run.first text state run.runs a honest) empty (omega arith)
     never_unformatted _ n x text state once gate next is run honest last none = gate
 
     -- a database is made by the first command, before which no fuse is set
     unfused : (script : List Command) (n : ℕ) (x : Command) (text : List ℕ) (state : Program V) → BeginsOnce script → take (n + 1) script ≡ take n script ++ x ∷ []
-        → HasRun told may_leave moment left_since faults limit cuts precheck c.store script n text state → IsSize x → passes_of (store_of state) ≡ None
+        → HasRun g limit precheck c.store script n text state → IsSize x → passes_of (store_of state) ≡ None
     unfused script n x text state once next run is =
         let more : n + 1 ≡ suc n = omega arith in
         let zero_is : n ≡ 0 = size_is_first script n x once (subst (λ (m : ℕ). take m script ≡ take n script ++ x ∷ []) more next) is in
-        unfused_at_first c.store script text state (subst (λ (m : ℕ). HasRun told may_leave moment left_since faults limit cuts precheck c.store script m text state) zero_is run)
+        unfused_at_first c.store script text state (subst (λ (m : ℕ). HasRun g limit precheck c.store script m text state) zero_is run)
 
-    pub store_rises : (e : EndsAs told may_leave moment left_since faults cuts (Some (Run precheck limit)) c StoreFault)
-        → NoneEscapesBefore told may_leave moment left_since faults limit cuts precheck c e.mid e.count StoreFault e.ended
-        → FaultRises told may_leave moment left_since faults limit cuts precheck c e.mid e.count e.ended
+    pub store_rises : (e : EndsAs g (Some (Run precheck limit)) c StoreFault)
+        → NoneEscapesBefore g limit precheck c e.mid e.count StoreFault e.ended
+        → FaultRises g limit precheck c e.mid e.count e.ended
     store_rises e honest =
-        let stopped : HasStopped told may_leave moment left_since faults limit cuts precheck halts.StoreFault c e.mid = e.ended in
+        let stopped : HasStopped g limit precheck halts.StoreFault c e.mid = e.ended in
         let stops = stopped.2 in
         let once = (right_script stopped.1.bytes stopped.0 stopped.1.spelled).once in
-        let gone = there told may_leave moment left_since faults reads_now counts_now limit cuts precheck base c.store stopped.0 stops.count stops.text stops.state stops.run own honest in
-        fault_rises told may_leave moment left_since faults precheck
-        (SafeThere told may_leave moment left_since faults limit cuts precheck c.store stopped.0 stops.count stops.text stops.state stops.run) stops.command gone.log stops.state stops.last gone.point
+        let gone = there g reads_now counts_now limit precheck base c.store stopped.0 stops.count stops.text stops.state stops.run own honest in
+        fault_rises g precheck
+        (SafeThere g limit precheck c.store stopped.0 stops.count stops.text stops.state stops.run) stops.command gone.log stops.state stops.last gone.point
         (λ is. unfused stopped.0 stops.count stops.command stops.text stops.state once stops.next.next stops.run is) stops.fails
 
     script_is : (s script : List Command) → IsRead c script → Spells c.left s c.left' → s ≡ script
@@ -152,10 +153,10 @@ module _ {V : Type 0} (told : V → Option Disk) (may_leave : V → Disk → Typ
         one_script read.bytes s script
         (subst (λ (b : List ℕ). IsSpelled b s) (same_bytes c.left read.bytes spells.bytes c.left' read.left spells.all) spells.spelled) read.spelled
 
-    pub may_end : (status : Status) (script : List Command) → IsRead c script → FindsItsGate told base script c.store
-        → (e : EndsAs told may_leave moment left_since faults cuts (Some (Run precheck limit)) c status)
-        → ScriptIsHonest told may_leave moment left_since faults limit cuts precheck c e.mid e.count status e.ended
-        → NoneRises told may_leave moment left_since faults limit cuts precheck c e.mid e.count status e.ended
+    pub may_end : (status : Status) (script : List Command) → IsRead c script → FindsItsGate g base script c.store
+        → (e : EndsAs g (Some (Run precheck limit)) c status)
+        → ScriptIsHonest g limit precheck c e.mid e.count status e.ended
+        → NoneRises g limit precheck c e.mid e.count status e.ended
         → MayEnd status
     may_end Done script read gate e honest calm = tt
     may_end OutOfMemory script read gate e honest calm = tt
@@ -169,25 +170,25 @@ module _ {V : Type 0} (told : V → Option Disk) (may_leave : V → Disk → Typ
         (subst (λ (b : List ℕ). IsWrong b line kind) (same_bytes c.left read.bytes none.bytes c.left' read.left none.all) none.wrong)
     may_end TooLong script read gate e honest calm = too_many c.left read.bytes 1048576 c.left' read.left read.short e.ended.0
     may_end (BadStore file at) script read gate e honest calm =
-        script_survives told may_leave moment left_since faults reads_now counts_now limit cuts precheck c e.mid e.count base own (BadStore file at) e.ended honest
+        script_survives g reads_now counts_now limit precheck c e.mid e.count base own (BadStore file at) e.ended honest
     may_end (LogFull end most) script read gate e honest calm = e.ended
     may_end Formatted script read gate e honest calm =
-        let stopped : HasStopped told may_leave moment left_since faults limit cuts precheck halts.Formatted c e.mid = e.ended in
+        let stopped : HasStopped g limit precheck halts.Formatted c e.mid = e.ended in
         let same = script_is stopped.0 script read stopped.1 in
         let stops = stopped.2 in
         never_formatted stopped.0 stops.count stops.command stops.text stops.state
         (subst BeginsOnce (sym same) (right_script read.bytes script read.spelled).once)
-        (subst (λ (s : List Command). FindsItsGate told base s c.store) (sym same) gate) stops.next.next stops.fails.0 stops.run stops.fails.1
+        (subst (λ (s : List Command). FindsItsGate g base s c.store) (sym same) gate) stops.next.next stops.fails.0 stops.run stops.fails.1
     may_end Unformatted script read gate e honest calm =
-        let stopped : HasStopped told may_leave moment left_since faults limit cuts precheck halts.Unformatted c e.mid = e.ended in
+        let stopped : HasStopped g limit precheck halts.Unformatted c e.mid = e.ended in
         let same = script_is stopped.0 script read stopped.1 in
         let stops = stopped.2 in
         never_unformatted stopped.0 stops.count stops.command stops.text stops.state
         (subst BeginsOnce (sym same) (right_script read.bytes script read.spelled).once)
-        (subst (λ (s : List Command). FindsItsGate told base s c.store) (sym same) gate) stops.next.next stops.fails.0 stops.run honest.0 honest.1 stops.fails.1
+        (subst (λ (s : List Command). FindsItsGate g base s c.store) (sym same) gate) stops.next.next stops.fails.0 stops.run honest.0 honest.1 stops.fails.1
 
-  pub store_faults_rise : StoreFaultsRise told may_leave moment left_since faults limit cuts precheck
+  pub store_faults_rise : StoreFaultsRise g limit precheck
   store_faults_rise c base own e honest = store_rises c base own e honest
 
-  pub runs_complete : RunsComplete told may_leave moment left_since faults limit cuts precheck
+  pub runs_complete : RunsComplete g limit precheck
   runs_complete c status base script own read gate e honest calm = may_end c base own status script read gate e honest calm

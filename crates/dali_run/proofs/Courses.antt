@@ -4,8 +4,9 @@ use Rattle.std.proofs.lemmas.List.{append-nil, take_more}
 use Rattle.std.specs.Prelude.{Bool, OnOk, IfErr}
 use Rattle.std.specs.List.{AllByRecursion}
 use Rattle.dali_store.specs.Faults.{Rose}
-use Rattle.dali_store.specs.Store.{Files}
+use Rattle.dali_store.specs.declared.store.Store.{Ghosts}
 use Rattle.dali_streams.specs.Streams.{Appends}
+use Rattle.dali_streams.specs.declared.streams.Sink.{Ghosts as SinkGhosts}
 use Rattle.dali_memstore.specs.Fuse.{inner}
 use Rattle.dali_memstore.specs.declared.fuse.Fuse.{Fuse}
 use Rattle.dali_script.specs.declared.commands.Command.{Command}
@@ -44,24 +45,24 @@ pub ok_is_no_err : {T E : Type 0} (r : Result T E) (x : T) (f : E) → r ≡ Ok 
 ok_is_no_err (Ok t) x f ok err = cc
 ok_is_no_err (Err g) x f ok err = cc
 
-pub holds_down : {V : Type 0} (told : V → Option Files) (p : Program V) (store : V) → IsDown p store → HoldsImages told p
-holds_down told p store down = subst (HoldsImages told) (sym down.down) tt
+pub holds_down : {V : Type 0} (g : Ghosts V) (p : Program V) (store : V) → IsDown p store → HoldsImages g p
+holds_down g p store down = subst (HoldsImages g) (sym down.down) tt
 
 pub inner_of : {V : Type 0} (p : Program V) (f : Fuse V) (s : V) → f ≡ store_of p → s ≡ inner f → inner (store_of p) ≡ s
 inner_of {V = V} p f s of is = ap (λ (x : Fuse V). inner x) (sym of) ∙ sym is
 
-module _ {V : Type 0} (told : V → Option Files) (may_leave : V → Files → Type 0) (moment : V → ℕ) (left_since : V → ℕ → Files → Type 0) (faults : V → ℕ) (limit : ℕ) (cuts : V → ℕ → Option Files) (precheck : Bool) where
-  one_more : (done : List Command) (command : Command) (start now next : Program V) (text more : List ℕ) → RunsAll told may_leave moment left_since faults limit cuts precheck start done text now
-      → Steps told may_leave moment left_since faults limit cuts precheck now command more next → RunsAll told may_leave moment left_since faults limit cuts precheck start (done ++ command ∷ []) (text ++ more) next
+module _ {V : Type 0} (g : Ghosts V) (limit : ℕ) (precheck : Bool) where
+  one_more : (done : List Command) (command : Command) (start now next : Program V) (text more : List ℕ) → RunsAll g limit precheck start done text now
+      → Steps g limit precheck now command more next → RunsAll g limit precheck start (done ++ command ∷ []) (text ++ more) next
   one_more [] command start now next text more run step =
-      (more, next, [], subst (λ (p : Program V). Steps told may_leave moment left_since faults limit cuts precheck p command more next) run.1 step, (refl, refl), ap (λ (l : List ℕ). l ++ more) run.0 ∙ sym (append-nil more))
+      (more, next, [], subst (λ (p : Program V). Steps g limit precheck p command more next) run.1 step, (refl, refl), ap (λ (l : List ℕ). l ++ more) run.0 ∙ sym (append-nil more))
   one_more (c ∷ done) command start now next text more run step =
       (run.0, run.1, run.2 ++ more, run.3, one_more done command run.1 now next run.2 more run.4 step, ap (λ (l : List ℕ). l ++ more) run.5 ∙ append_assoc run.0 run.2 more)
 
   -- so many commands were run, and their lines written
   pub record Reached (start : V) (script : List Command) (count : ℕ) (before : Option (List ℕ)) (now : Program V) (after : Option (List ℕ)) : Type 0 where
     pub text : List ℕ
-    pub run : HasRun told may_leave moment left_since faults limit cuts precheck start script count text now
+    pub run : HasRun g limit precheck start script count text now
     pub written : Appends before text after
 
   pub begins : (start : V) (script : List Command) (before : Option (List ℕ)) (p : Program V) → IsDown p start → Reached start script 0 before p before
@@ -72,17 +73,17 @@ module _ {V : Type 0} (told : V → Option Files) (may_leave : V → Files → T
   }
 
   more_run : (start : V) (script : List Command) (count : ℕ) (command : Command) (text more : List ℕ) (now next : Program V) → count < length script → command ≡ get_or script count command
-      → HasRun told may_leave moment left_since faults limit cuts precheck start script count text now → Steps told may_leave moment left_since faults limit cuts precheck now command more next
-      → HasRun told may_leave moment left_since faults limit cuts precheck start script (count + 1) (text ++ more) next
+      → HasRun g limit precheck start script count text now → Steps g limit precheck now command more next
+      → HasRun g limit precheck start script (count + 1) (text ++ more) next
   more_run start script count command text more now next within is run step = record {
     first = run.first;
     down = run.down;
-    runs = subst (λ (cs : List Command). RunsAll told may_leave moment left_since faults limit cuts precheck run.first cs (text ++ more) next) (sym (front_more script count command within is))
+    runs = subst (λ (cs : List Command). RunsAll g limit precheck run.first cs (text ++ more) next) (sym (front_more script count command within is))
         (one_more (take count script) command run.first now next text more run.runs step);
   }
 
   pub goes_on : (start : V) (script : List Command) (count : ℕ) (command : Command) (before mid after : Option (List ℕ)) (now next : Program V) → count < length script → command ≡ get_or script count command
-      → Reached start script count before now mid → (text : List ℕ) × Steps told may_leave moment left_since faults limit cuts precheck now command text next × Appends mid text after → Reached start script (count + 1) before next after
+      → Reached start script count before now mid → (text : List ℕ) × Steps g limit precheck now command text next × Appends mid text after → Reached start script (count + 1) before next after
   goes_on start script count command before mid after now next within is r done = record {
     text = r.text ++ done.0;
     run = more_run start script count command r.text done.0 now next within is r.run done.1;
@@ -90,18 +91,18 @@ module _ {V : Type 0} (told : V → Option Files) (may_leave : V → Files → T
   }
 
   pub is_whole : (start : V) (script : List Command) (count : ℕ) (before after : Option (List ℕ)) (now : Program V) (end : V) → count ≡ length script → inner (store_of now) ≡ end → Reached start script count before now after
-      → RanWhole told may_leave moment left_since faults limit cuts precheck start script before after end
+      → RanWhole g limit precheck start script before after end
   is_whole start script count before after now end all store r = record {
     text = r.text;
     state = now;
-    run = subst (λ (n : ℕ). HasRun told may_leave moment left_since faults limit cuts precheck start script n r.text now) all r.run;
+    run = subst (λ (n : ℕ). HasRun g limit precheck start script n r.text now) all r.run;
     store = store;
     written = r.written;
   }
 
   stopped : (halt : Halt) (start : V) (script : List Command) (count : ℕ) (command : Command) (before mid after : Option (List ℕ)) (now next : Program V) (end : V) → count < length script → command ≡ get_or script count command
-      → inner (store_of next) ≡ end → Reached start script count before now mid → Fails told may_leave moment left_since faults precheck halt command now (store_of next) × (after ≡ mid)
-      → StoppedIn told may_leave moment left_since faults limit cuts precheck halt start script before after end
+      → inner (store_of next) ≡ end → Reached start script count before now mid → Fails g precheck halt command now (store_of next) × (after ≡ mid)
+      → StoppedIn g limit precheck halt start script before after end
   stopped halt start script count command before mid after now next end within is store r stops = record {
     count = count;
     command = command;
@@ -115,10 +116,10 @@ module _ {V : Type 0} (told : V → Option Files) (may_leave : V → Files → T
     written = subst (λ (t : Option (List ℕ)). Appends before r.text t) (sym stops.1) r.written;
   }
 
-  pub stops_in : (halt : Halt) (start : V) (script : List Command) (count : ℕ) (command : Command) (before mid after : Option (List ℕ)) (now next : Program V) (end : V) (first faults0 faults1 : ℕ) → count < length script
-      → command ≡ get_or script count command → inner (store_of next) ≡ end → first ≤ faults0 → Reached start script count before now mid
-      → CommandStops told may_leave moment left_since faults limit cuts precheck halt command now next mid after faults0 faults1 → ScriptStops told may_leave moment left_since faults limit cuts precheck halt start script end before after first faults1
-  stops_in WriteFault start script count command before mid after now next end first f0 f1 within is store le r stops = (
+  pub stops_in : {K : Type 0} (k : SinkGhosts K) (halt : Halt) (start : V) (script : List Command) (count : ℕ) (command : Command) (a b d : K) (now next : Program V) (end : V) → count < length script
+      → command ≡ get_or script count command → inner (store_of next) ≡ end → k.faults a ≤ k.faults b → Reached start script count (k.taken a) now (k.taken b)
+      → CommandStops g k limit precheck halt command now next b d → ScriptStops g k limit precheck halt start script end a d
+  stops_in k WriteFault start script count command a b d now next end within is store le r stops = (
     record {
       count = count;
       command = command;
@@ -130,23 +131,23 @@ module _ {V : Type 0} (told : V → Option Files) (may_leave : V → Files → T
       state = next;
       steps = stops.0.steps;
       store = store;
-      between = mid;
+      between = k.taken b;
       written = r.written;
       cut = stops.0.cut;
     },
-    earlier first f0 f1 le stops.1,
+    earlier (k.faults a) (k.faults b) (k.faults d) le stops.1,
   )
     where
-      earlier : (a b d : ℕ) → a ≤ b → Rose b d → Rose a d
-      earlier a b d le (inl lt) = inl (omega (arith, le, lt))
-      earlier a b d le (inr end) = inr end
-  stops_in BadWords start script count command before mid after now next end first f0 f1 within is store le r stops = stopped BadWords start script count command before mid after now next end within is store r stops
-  stops_in (BadScript line kind) start script count command before mid after now next end first f0 f1 within is store le r stops = stopped (BadScript line kind) start script count command before mid after now next end within is store r stops
-  stops_in TooLong start script count command before mid after now next end first f0 f1 within is store le r stops = stopped TooLong start script count command before mid after now next end within is store r stops
-  stops_in ReadFault start script count command before mid after now next end first f0 f1 within is store le r stops = stopped ReadFault start script count command before mid after now next end within is store r stops
-  stops_in StoreFault start script count command before mid after now next end first f0 f1 within is store le r stops = stopped StoreFault start script count command before mid after now next end within is store r stops
-  stops_in (BadStore file at) start script count command before mid after now next end first f0 f1 within is store le r stops = stopped (BadStore file at) start script count command before mid after now next end within is store r stops
-  stops_in Unformatted start script count command before mid after now next end first f0 f1 within is store le r stops = stopped Unformatted start script count command before mid after now next end within is store r stops
-  stops_in Formatted start script count command before mid after now next end first f0 f1 within is store le r stops = stopped Formatted start script count command before mid after now next end within is store r stops
-  stops_in (LogFull most place) start script count command before mid after now next end first f0 f1 within is store le r stops = stopped (LogFull most place) start script count command before mid after now next end within is store r stops
-  stops_in OutOfMemory start script count command before mid after now next end first f0 f1 within is store le r stops = stopped OutOfMemory start script count command before mid after now next end within is store r stops
+      earlier : (first mid last : ℕ) → first ≤ mid → Rose mid last → Rose first last
+      earlier first mid last le (inl lt) = inl (omega (arith, le, lt))
+      earlier first mid last le (inr most) = inr most
+  stops_in k BadWords start script count command a b d now next end within is store le r stops = stopped BadWords start script count command (k.taken a) (k.taken b) (k.taken d) now next end within is store r stops
+  stops_in k (BadScript line kind) start script count command a b d now next end within is store le r stops = stopped (BadScript line kind) start script count command (k.taken a) (k.taken b) (k.taken d) now next end within is store r stops
+  stops_in k TooLong start script count command a b d now next end within is store le r stops = stopped TooLong start script count command (k.taken a) (k.taken b) (k.taken d) now next end within is store r stops
+  stops_in k ReadFault start script count command a b d now next end within is store le r stops = stopped ReadFault start script count command (k.taken a) (k.taken b) (k.taken d) now next end within is store r stops
+  stops_in k StoreFault start script count command a b d now next end within is store le r stops = stopped StoreFault start script count command (k.taken a) (k.taken b) (k.taken d) now next end within is store r stops
+  stops_in k (BadStore file at) start script count command a b d now next end within is store le r stops = stopped (BadStore file at) start script count command (k.taken a) (k.taken b) (k.taken d) now next end within is store r stops
+  stops_in k Unformatted start script count command a b d now next end within is store le r stops = stopped Unformatted start script count command (k.taken a) (k.taken b) (k.taken d) now next end within is store r stops
+  stops_in k Formatted start script count command a b d now next end within is store le r stops = stopped Formatted start script count command (k.taken a) (k.taken b) (k.taken d) now next end within is store r stops
+  stops_in k (LogFull most place) start script count command a b d now next end within is store le r stops = stopped (LogFull most place) start script count command (k.taken a) (k.taken b) (k.taken d) now next end within is store r stops
+  stops_in k OutOfMemory start script count command a b d now next end within is store le r stops = stopped OutOfMemory start script count command (k.taken a) (k.taken b) (k.taken d) now next end within is store r stops

@@ -15,6 +15,7 @@ use Rattle.dali_script.specs.declared.commands.Command.{Command}
 use Rattle.dali_script.specs.declared.commands.Command.TheVariants.{Size, Open, Round, Poke, Audit, Checkpoint, Cleanup, Crash, Restart, Show, Verify, Next, Fuse as SetFuse}
 use Rattle.dali_store.specs.Faults.{Rose}
 use Rattle.dali_store.specs.Store.{Files as Disk}
+use Rattle.dali_store.specs.declared.store.Store.{Ghosts}
 use Rattle.dali_system.specs.Run.{HasRisen}
 use Rattle.dali_system.specs.State.{CoreState}
 use Rattle.dali_transcripts.specs.Moves.{Receipt, Place, Outside, Spot, Move, Begins, IsRefusedBegin, Pokes as PokesOnce, PokesNothing, Audits as AuditsOnce, IsRefusedAudit, Checkpoints as ChecksOnce, FailsCheckpoint, IsRefusedCheckpoint, from, said, own, to, start, spanned, refused_own}
@@ -144,30 +145,30 @@ unset (Some left) n e = absurd (cc e)
 pub none_failed : {V : Type 0} (f : Fuse V) → is_some (passes_of f) ≡ false → failed_of f ≡ 0
 none_failed f e = unset (passes_of f) _ e
 
-module _ {V : Type 0} (told : V → Option Disk) (may_leave : V → Disk → Type 0) (moment : V → ℕ) (left_since : V → ℕ → Disk → Type 0) (faults : V → ℕ) (precheck : Bool) where
-  alone_rises : (act : Act) → is_lone act ≡ true → (base : List Record) (c : Core (Fuse V)) (f : Fuse V) → IsPointOf told may_leave faults base c
-      → FailsAlone told may_leave moment left_since faults precheck act c f → Rose (faults_in faults c.vault.store) (faults_in faults f)
+module _ {V : Type 0} (g : Ghosts V) (precheck : Bool) where
+  alone_rises : (act : Act) → is_lone act ≡ true → (base : List Record) (c : Core (Fuse V)) (f : Fuse V) → IsPointOf g base c
+      → FailsAlone g precheck act c f → Rose (faults_in g c.vault.store) (faults_in g f)
   alone_rises act lone base c f at fails =
       let leads = fails.plays at.start at.batches at.point at.begins in
       let round = leads.round in
       let w = round.world in
-      let was : w.old.vault.faults ≡ faults_in faults c.vault.store = ap (λ (k : CoreState). k.vault.faults) round.old_is ∙ at.begins.stands.at.vault.vault.counted in
-      let is : w.core.vault.faults ≡ faults_in faults f =
-      ap (λ (k : CoreState). k.vault.faults) round.core_is ∙ (leads.stands.at.vault.vault.counted ∙ ap (λ (s : Fuse V). faults_in faults s) (sym fails.store)) in
-      rises w.old.vault.faults w.core.vault.faults (faults_in faults c.vault.store) (faults_in faults f) was is
+      let was : w.old.vault.faults ≡ faults_in g c.vault.store = ap (λ (k : CoreState). k.vault.faults) round.old_is ∙ at.begins.stands.at.vault.vault.counted in
+      let is : w.core.vault.faults ≡ faults_in g f =
+      ap (λ (k : CoreState). k.vault.faults) round.core_is ∙ (leads.stands.at.vault.vault.counted ∙ ap (λ (s : Fuse V). faults_in g s) (sym fails.store)) in
+      rises w.old.vault.faults w.core.vault.faults (faults_in g c.vault.store) (faults_in g f) was is
       (round.together.faults.rose (round_fails w act fails.transcripts lone round.transcripts.each fails.said))
 
-  pub own_rises : (old f : Fuse V) → Rose (faults_in faults old) (faults_in faults f) → failed_of f ≤ failed_of old → OwnRose faults old f
+  pub own_rises : (old f : Fuse V) → Rose (faults_in g old) (faults_in g f) → failed_of f ≤ failed_of old → OwnRose g old f
   own_rises old f (inl more) few = inl (omega (arith, more, few))
   own_rises old f (inr end) few = inr end
 
-  in_act : (Safe : Disk → Type 0) (act : Act) → is_lone act ≡ true → (base : List Record) (old : Program V) (f : Fuse V) → IsAPoint told may_leave faults Safe base old
-      → AloneFails told may_leave moment left_since faults precheck act old f → OwnRose faults (store_of old) f
+  in_act : (Safe : Disk → Type 0) (act : Act) → is_lone act ≡ true → (base : List Record) (old : Program V) (f : Fuse V) → IsAPoint g Safe base old
+      → AloneFails g precheck act old f → OwnRose g (store_of old) f
   in_act Safe act lone base (Up core) f at fails = own_rises core.vault.store f (alone_rises act lone base core f at fails) fails.none_by_fuse
   in_act Safe act lone base (Down store) f at fails = absurd fails
 
-  pub fault_rises : (Safe : Disk → Type 0) (command : Command) (base : List Record) (old : Program V) (f : Fuse V) → IsAPoint told may_leave faults Safe base old
-      → (IsSize command → passes_of (store_of old) ≡ None) → StoreFailsIn told may_leave moment left_since faults precheck command old f → OwnRose faults (store_of old) f
+  pub fault_rises : (Safe : Disk → Type 0) (command : Command) (base : List Record) (old : Program V) (f : Fuse V) → IsAPoint g Safe base old
+      → (IsSize command → passes_of (store_of old) ≡ None) → StoreFailsIn g precheck command old f → OwnRose g (store_of old) f
   fault_rises Safe (Size index heap) base old f at unfused fails =
       let counted : is_some (passes_of f) ≡ is_some (passes_of (store_of old)) = fails.1.passes.counted in
       let none = none_failed f (counted ∙ ap (λ (o : Option ℕ). is_some o) (unfused tt)) in

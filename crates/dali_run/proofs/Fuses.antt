@@ -1,9 +1,9 @@
 -- A program whose fuse is set anew.
-use Rattle.std.proofs.Common.{◌≡◌, ℕ, Option, refl, sym, ap, subst}
+use Rattle.std.proofs.Common.{◌≡◌, ℕ, refl, sym, ap, subst}
 use Rattle.std.specs.Prelude.{IfSome}
 use Rattle.dali_memstore.specs.Fuse.{inner}
 use Rattle.dali_memstore.specs.declared.fuse.Fuse.{Fuse}
-use Rattle.dali_store.specs.Store.{Files}
+use Rattle.dali_store.specs.declared.store.Store.{Ghosts}
 use Rattle.dali_vault.specs.Vaulted.{Vaulted, with_store}
 use Rattle.dali_whole.specs.declared.whole.Core.{Core}
 use Rattle.dali_whole.specs.Cores.{HoldsPlaces}
@@ -22,6 +22,6 @@ pub fuse_down : {V : Type 0} (passes : ℕ) (p : Program V) (store f : Fuse V) �
 fuse_down {V = V} passes p store f is sets = subst (λ (q : Program V). FuseIn passes q (Down f)) (sym is) (f, sets, refl)
 
 -- no file changes
-pub images_up : {V : Type 0} (told : V → Option Files) (p : Program V) (core : Core (Fuse V)) (f : Fuse V) → p ≡ Up core → inner f ≡ inner core.vault.store → HoldsImages told p
-    → IfSome (told_in told f) (HoldsPlaces core.regions.items)
-images_up told p core f is same images = places_over told core.regions.items core.vault.store f same (subst (HoldsImages told) is images)
+pub images_up : {V : Type 0} (g : Ghosts V) (p : Program V) (core : Core (Fuse V)) (f : Fuse V) → p ≡ Up core → inner f ≡ inner core.vault.store → HoldsImages g p
+    → IfSome (told_in g f) (HoldsPlaces core.regions.items)
+images_up g p core f is same images = places_over g core.regions.items core.vault.store f same (subst (HoldsImages g) is images)

@@ -1,13 +1,13 @@
 -- A fuse that is set anew.
-use Rattle.std.proofs.Common.{◌≡◌, List, Option, sym, subst}
+use Rattle.std.proofs.Common.{◌≡◌, List, sym, subst}
 use Rattle.std.specs.Prelude.{IfSome}
 use Rattle.dali_memstore.specs.Fuse.{inner}
 use Rattle.dali_memstore.specs.declared.fuse.Fuse.{Fuse}
 use Rattle.dali_region.specs.State.{RegionState}
-use Rattle.dali_store.specs.Store.{Files}
+use Rattle.dali_store.specs.declared.store.Store.{Ghosts}
 use Rattle.dali_whole.specs.Cores.{HoldsPlaces}
 use Rattle.dali_run.specs.Program.{told_in}
 
-pub places_over : {V : Type 0} (told : V → Option Files) (gs : List RegionState) (f g : Fuse V) → inner g ≡ inner f → IfSome (told_in told f) (HoldsPlaces gs)
-    → IfSome (told_in told g) (HoldsPlaces gs)
-places_over {V = V} told gs f g same holds = subst (λ (s : V). IfSome (told s) (HoldsPlaces gs)) (sym same) holds
+pub places_over : {V : Type 0} (g : Ghosts V) (gs : List RegionState) (f h : Fuse V) → inner h ≡ inner f → IfSome (told_in g f) (HoldsPlaces gs)
+    → IfSome (told_in g h) (HoldsPlaces gs)
+places_over {V = V} g gs f h same holds = subst (λ (s : V). IfSome (g.told s) (HoldsPlaces gs)) (sym same) holds

@@ -1,7 +1,8 @@
 -- Rounds one behind another, and a crash behind them.
-use Rattle.std.proofs.Common.{ℕ, [], ◌∷◌, ◌++◌, Option, Some, None, refl, sym, subst}
+use Rattle.std.proofs.Common.{[], ◌∷◌, ◌++◌, Option, Some, None, refl, sym, subst}
 use Rattle.std.specs.Prelude.{IfSome}
 use Rattle.dali_store.specs.Store.{Files as Disk}
+use Rattle.dali_store.specs.declared.store.Store.{Ghosts}
 use Rattle.dali_system.specs.State.{SystemState}
 use Rattle.dali_traces.specs.Disks.{AllSpell}
 use Rattle.dali_traces.specs.Bridges.{TracedTo}
@@ -15,11 +16,11 @@ use Rattle.dali_checkpoint.proofs.Calls.{course_join}
 use Rattle.dali_round.specs.Leads.{BeginsAt}
 use Rattle.dali_run.specs.Chain.{RoundBegins, RoundsBegin, CrashRestarts}
 
-module _ {V : Type 0} (told : V → Option Disk) (may_leave : V → Disk → Type 0) (faults : V → ℕ) where
-  pub round_begins : RoundBegins told may_leave faults
+module _ {V : Type 0} (g : Ghosts V) where
+  pub round_begins : RoundBegins g
   round_begins precheck s p blocks lines receipts hs z u led = record { stands = led.stands; files = led.files; keeps = led.keeps; between = led.round.between refl }
 
-  pub rounds_begin : RoundsBegin told may_leave faults
+  pub rounds_begin : RoundsBegin g
   rounds_begin s B p gs hs y z v u [] begins rows =
       record {
         to = p;
@@ -27,18 +28,18 @@ module _ {V : Type 0} (told : V → Option Disk) (may_leave : V → Disk → Typ
         steps = [];
         course = refl;
         begins =
-            subst (λ l. BeginsAt told may_leave faults s B p l z u) (sym rows.0)
-            (subst (λ (m : SystemState). BeginsAt told may_leave faults s B p gs m u) (sym rows.1) (subst (λ (w : Vaulted V). BeginsAt told may_leave faults s B p gs y w) (sym rows.2) begins));
+            subst (λ l. BeginsAt g.told g.may_leave g.faults s B p l z u) (sym rows.0)
+            (subst (λ (m : SystemState). BeginsAt g.told g.may_leave g.faults s B p gs m u) (sym rows.1) (subst (λ (w : Vaulted V). BeginsAt g.told g.may_leave g.faults s B p gs y w) (sym rows.2) begins));
       }
   rounds_begin s B p gs hs y z v u (r ∷ rs) begins rows =
       let led = rows.0 s B p begins in
       let more = rounds_begin s led.batches led.to r.regions hs r.system z r.vault u rs (round_begins r.precheck s p _ _ _ r.regions r.system r.vault led) rows.1 in
       record { to = more.to; batches = more.batches; steps = led.steps ++ more.steps; course = course_join p led.to more.to led.steps more.steps led.course more.course; begins = more.begins }
 
-  pub crash_restarts : CrashRestarts told may_leave faults
-  crash_restarts s B p gs y v stands placed none = by_told (told v.store) stands.at.vault.files
+  pub crash_restarts : CrashRestarts g
+  crash_restarts s B p gs y v stands placed none = by_told (g.told v.store) stands.at.vault.files
     where
-      by_told : (o : Option Disk) → IfSome o (λ _. AllSpell (may_leave v.store) (TracedTo s B p)) → IfSome o (λ _. AllSpell (may_leave v.store) (λ F. FindsIt F × EachRestart F (AnswersRight s.log p.core F)))
+      by_told : (o : Option Disk) → IfSome o (λ _. AllSpell (g.may_leave v.store) (TracedTo s B p)) → IfSome o (λ _. AllSpell (g.may_leave v.store) (λ F. FindsIt F × EachRestart F (AnswersRight s.log p.core F)))
       by_told None all = tt
       by_told (Some fs) all = λ c may.
           let one = all c may in

@@ -1,10 +1,8 @@
 -- Runs without pokes are honest by themselves.
-use Rattle.std.proofs.Common.{◌≡◌, ◌⊎◌, ◌≤◌, ℕ, zero, suc, ◌+◌, ◌-◌, ◌==◌, ◌%◌, Bool, true, false, List, [], ◌∷◌, ◌++◌, Option, Some, None, length, map, flat_map, take, refl, sym, ◌∙◌, ap, subst, inl, inr, arith}
+use Rattle.std.proofs.Common.{◌≡◌, ◌⊎◌, ◌≤◌, ℕ, zero, suc, ◌+◌, ◌-◌, ◌==◌, ◌%◌, Bool, true, false, List, [], ◌∷◌, ◌++◌, Option, Some, None, length, map, flat_map, take, refl, sym, ◌∙◌, ap, subst, inl, inr}
 use Rattle.std.specs.Prelude.{◌||◌, IfSome, filter_map, if◌then◌else◌, slice_get}
 use Rattle.std.specs.List.{list_any, range_with_len}
 use Rattle.std.proofs.lemmas.Bool.{or_parts}
-use Rattle.std.proofs.lemmas.Option.{slice_get_within}
-use Rattle.dali_lists.proofs.Lists.{get_within}
 use Rattle.dali_arguments.specs.Laws.{IsInRange}
 use Rattle.dali_arguments.specs.Meaning.{meaning}
 use Rattle.dali_arguments.specs.declared.task.Task.{Task}
@@ -17,7 +15,6 @@ use Rattle.dali_geometry.specs.Places.{regions}
 use Rattle.dali_memstore.specs.Fuse.{inner}
 use Rattle.dali_memstore.specs.declared.fuse.Fuse.{Fuse}
 use Rattle.dali_record.specs.declared.records.Record.{Record}
-use Rattle.dali_region.specs.State.{RegionState}
 use Rattle.dali_round.specs.Leads.{lines_in}
 use Rattle.dali_script.specs.declared.commands.Block.{Block}
 use Rattle.dali_script.specs.declared.commands.ClientCommand.{ClientCommand}
@@ -25,7 +22,7 @@ use Rattle.dali_script.specs.declared.commands.ClientCommand.TheVariants as clie
 use Rattle.dali_script.specs.declared.commands.Command.{Command}
 use Rattle.dali_script.specs.declared.commands.Command.TheVariants.{Size, Open, Round, Poke, Audit, Checkpoint, Cleanup, Crash, Restart, Show, Verify, Next, Fuse as SetFuse}
 use Rattle.dali_store.specs.Store.{Files as Disk}
-use Rattle.dali_system.specs.State.{CoreState}
+use Rattle.dali_store.specs.declared.store.Store.{Ghosts}
 use Rattle.dali_transcripts.specs.Words.{Act, Audits, Checkpoints, Said}
 use Rattle.dali_transcripts.specs.Transcripts.{Told as Blocks}
 use Rattle.dali_transcripts.specs.Rounds.{AreBlocks, IsPlaced}
@@ -49,10 +46,10 @@ use Rattle.dali_run.specs.Steps.{Plays, Steps, StepsRestart}
 use Rattle.dali_run.specs.Survives.{AnyFiles, IsAPoint, IsOwn, IsPointOf, NoneEscape, NoneEscapesAlone, NoneEscapesAt, NoneEscapesBehind, NoneEscapesCut, NoneEscapesFailed, NoneEscapesFound, NoneEscapesFrom, NoneEscapesIn, NoneEscapesLeft, NoneEscapesLost, NoneEscapesMaking, NoneEscapesRead, NoneEscapesRestarted, NoneEscapesStopped, NoneEscapesWanting, SafeAfter, SafeBehind, SafeCut, SafeRestarted, SafeThere, ScriptIsHonest}
 use Rattle.dali_run.specs.Told.{AreFit, IsFit, alone, told_by}
 use Rattle.dali_run.proofs.Fit.{all_fit, right_blocks}
-use Rattle.dali_run.proofs.Standing.{stands_of}
+use Rattle.dali_run.proofs.Standing.{standing_of, stands_of}
 use Rattle.dali_run.proofs.Sums.{masks_at, poked_is}
 use Rattle.dali_run.proofs.Surviving.{begins_down, next_fit, step_goes, tells_on, fit_front}
-use Rattle.dali_run.proofs.Telling.{step_told}
+use Rattle.dali_run.proofs.Telling.{round_pokes, step_told}
 use Rattle.dali_run.proofs.Unharmed.{cores_are_honest, stands_honest, within_honest}
 use Rattle.dali_run.proofs.Unstrayed.{AreQuiet, coming_none, done_none, quiet_round}
 
@@ -124,72 +121,61 @@ none_told masks (Down store) none are = tt
 none_poked : {V : Type 0} (core : Core (Fuse V)) → AreTold nothing (Up core) → NonePoked core.regions.items
 none_poked core are = λ r g e. (are r g e).1
 
-module _ {V : Type 0} (told : V → Option Disk) (may_leave : V → Disk → Type 0) (faults : V → ℕ) (precheck : Bool) where
+module _ {V : Type 0} (g : Ghosts V) (precheck : Bool) where
   -- a round, that was cut too, pokes no region
   round_unpoked : (whole : Bool) (base : List Record) (blocks : List Blocks) (c d : Core (Fuse V)) (ts : List Transcribed) → AreQuiet blocks
-      → Plays told may_leave faults precheck whole blocks c ts d → IsPointOf told may_leave faults base c → NonePoked c.regions.items → NonePoked d.regions.items
+      → Plays g precheck whole blocks c ts d → IsPointOf g base c → NonePoked c.regions.items → NonePoked d.regions.items
   round_unpoked whole base blocks c d ts quiet plays a calm = λ r h e.
-      let led = plays a.start a.batches a.point a.begins in
-      let round = led.round in
+      let stands = standing_of g base c a in
+      let round = (plays stands.start stands.batches stands.point stands.begins).round in
       let w = round.world in
-      let new_is : w.core.regions ≡ d.regions.items = ap (λ (k : CoreState). k.regions) round.core_is ∙ led.stands.at.regions in
-      let old_is : w.old.regions ≡ c.regions.items = ap (λ (k : CoreState). k.regions) round.old_is ∙ a.begins.stands.at.regions in
-      let sizes : regions led.to.core.system.sizes ≡ regions a.point.core.system.sizes =
-      ap (λ (k : CoreState). regions k.system.sizes) (sym round.core_is) ∙ ap regions round.grew.sizes in
-      let count : length d.regions.items ≡ length c.regions.items =
-      ap (λ (l : List RegionState). length l) (sym led.stands.at.regions)
-      ∙ (led.stands.whole.regions ∙ (sizes ∙ (sym a.begins.stands.whole.regions ∙ ap (λ (l : List RegionState). length l) a.begins.stands.at.regions))) in
-      let within = slice_get_within d.regions.items r h e in
-      let was = get_within c.regions.items r (omega (arith, within, count)) in
-      let pokes =
-      round.together.pokes r was.0 h (ap (λ (l : List RegionState). slice_get l r) old_is ∙ was.1) (ap (λ (l : List RegionState). slice_get l r) new_is ∙ e) in
-      pokes.1
+      let was = round_pokes g precheck whole blocks c d ts plays stands r h e in
+      was.3
       ∙ (poked_is r was.0.poked w.happened
       ∙ (ap (λ (p : Bool). p || has_any (masks_at r w.happened)) (calm r was.0 was.1) ∙ ap has_any (quiet_round r whole w blocks (map lines_in ts) quiet round.transcripts)))
 
-  round_honest : (whole : Bool) (base : List Record) (blocks : List Blocks) (c d : Core (Fuse V)) (ts : List Transcribed) → AreQuiet blocks → IsNoShorter (told_in told) c.vault d.vault
-      → Plays told may_leave faults precheck whole blocks c ts d → IsPointOf told may_leave faults base c → NonePoked c.regions.items → NoneEscapesAt may_leave d
+  round_honest : (whole : Bool) (base : List Record) (blocks : List Blocks) (c d : Core (Fuse V)) (ts : List Transcribed) → AreQuiet blocks → IsNoShorter (told_in g) c.vault d.vault
+      → Plays g precheck whole blocks c ts d → IsPointOf g base c → NonePoked c.regions.items → NoneEscapesAt g d
   round_honest whole base blocks c d ts quiet longer plays a calm =
       let led = plays a.start a.batches a.point a.begins in
-      stands_honest told may_leave faults d a.start led.batches led.to led.stands (tells_on (told_in told c.vault.store) (told_in told d.vault.store) longer a.tells)
+      stands_honest g d a.start led.batches led.to led.stands (tells_on (told_in g c.vault.store) (told_in g d.vault.store) longer a.tells)
       (round_unpoked whole base blocks c d ts quiet plays a calm)
 
   -- nor does damage escape within it
   round_within : (whole : Bool) (base : List Record) (blocks : List Blocks) (c d : Core (Fuse V)) (ts : List Transcribed) → AreQuiet blocks
-      → Plays told may_leave faults precheck whole blocks c ts d → IsPointOf told may_leave faults base c → NonePoked c.regions.items → IsHonestWithin told may_leave faults c d
-  round_within whole base blocks c d ts quiet plays a calm = within_honest told may_leave faults c d (round_unpoked whole base blocks c d ts quiet plays a calm)
+      → Plays g precheck whole blocks c ts d → IsPointOf g base c → NonePoked c.regions.items → IsHonestWithin g c d
+  round_within whole base blocks c d ts quiet plays a calm = within_honest g c d (round_unpoked whole base blocks c d ts quiet plays a calm)
 
-module _ {V : Type 0} (told : V → Option Disk) (may_leave : V → Disk → Type 0) (moment : V → ℕ) (left_since : V → ℕ → Disk → Type 0) (faults : V → ℕ)
-    (reads_now : (s : V) → IfSome (told s) (λ fs. may_leave s fs)) (counts_now : (s : V) (t : ℕ) (c : Disk) → t ≤ moment s → may_leave s c → left_since s t c)
-    (cuts : V → ℕ → Option Disk) where
+module _ {V : Type 0} (g : Ghosts V)
+    (reads_now : (s : V) → IfSome (g.told s) (λ fs. g.may_leave s fs)) (counts_now : (s : V) (t : ℕ) (c : Disk) → t ≤ g.moment s → g.may_leave s c → g.left_since s t c) where
   -- a point of a run where nobody wrote astray
   pub record Calm (Safe : Disk → Type 0) (p : Program V) : Type 0 where
     base : List Record
-    point : IsAPoint told may_leave faults Safe base p
+    point : IsAPoint g Safe base p
     none : AreTold nothing p
     safe : (c : Disk) → Safe c
 
-  pub none_in : (Safe : Disk → Type 0) (p : Program V) → Calm Safe p → (c : Disk) → may_leave (inner (store_of p)) c → NoneEscapesIn Safe p c
-  none_in Safe (Up core) calm = cores_are_honest told may_leave faults calm.base core calm.point (none_poked core calm.none)
+  pub none_in : (Safe : Disk → Type 0) (p : Program V) → Calm Safe p → (c : Disk) → g.may_leave (inner (store_of p)) c → NoneEscapesIn Safe p c
+  none_in Safe (Up core) calm = cores_are_honest g calm.base core calm.point (none_poked core calm.none)
   none_in Safe (Down store) calm = λ c may. calm.safe c
 
-  pub some_read : (P : Disk → Type 0) (s : V) → ((c : Disk) → may_leave s c → P c) → IfSome (told s) P
-  some_read P s all = by_told (told s) (reads_now s)
+  pub some_read : (P : Disk → Type 0) (s : V) → ((c : Disk) → g.may_leave s c → P c) → IfSome (g.told s) P
+  some_read P s all = by_told (g.told s) (reads_now s)
     where
-      by_told : (o : Option Disk) → IfSome o (λ fs. may_leave s fs) → IfSome o P
+      by_told : (o : Option Disk) → IfSome o (λ fs. g.may_leave s fs) → IfSome o P
       by_told None may = tt
       by_told (Some fs) may = all fs may
 
-  none_read : (Safe : Disk → Type 0) (p : Program V) → Calm Safe p → NoneEscapesRead told Safe p
+  none_read : (Safe : Disk → Type 0) (p : Program V) → Calm Safe p → NoneEscapesRead g Safe p
   none_read Safe p calm = some_read (NoneEscapesIn Safe p) (inner (store_of p)) (none_in Safe p calm)
 
-  making_honest : (Safe : Disk → Type 0) (old : Program V) → Calm Safe old → (c : Disk) → NoneEscapesMaking told may_leave Safe old c
+  making_honest : (Safe : Disk → Type 0) (old : Program V) → Calm Safe old → (c : Disk) → NoneEscapesMaking g Safe old c
   making_honest Safe old calm c = inr (none_read Safe old calm, none_in Safe old calm c)
 
-  pub calm_down : (base : List Record) (p : Program V) (store : V) → IsDown p store → IsOwn told may_leave base store → Calm AnyFiles p
+  pub calm_down : (base : List Record) (p : Program V) (store : V) → IsDown p store → IsOwn g base store → Calm AnyFiles p
   calm_down base p store down own = record {
     base = base;
-    point = begins_down told may_leave faults base p store down own;
+    point = begins_down g base p store down own;
     none = subst (AreTold nothing) (sym down.down) tt;
     safe = λ c. tt;
   }
@@ -199,8 +185,8 @@ module _ {V : Type 0} (told : V → Option Disk) (may_leave : V → Disk → Typ
 
   module _ (limit : ℕ) (precheck : Bool) where
     none_behind : (command : Command) → pokes command ≡ false → (old : Program V) (text : List ℕ) (new : Program V)
-        → (step : Steps told may_leave moment left_since faults limit cuts precheck old command text new)
-        → IsNone (masks_behind told may_leave moment left_since faults limit cuts precheck command old text new step nothing)
+        → (step : Steps g limit precheck old command text new)
+        → IsNone (masks_behind g limit precheck command old text new step nothing)
     none_behind (Size index heap) none old text new step r = refl
     none_behind Open none old text new step r = refl
     none_behind Restart none old text new step r = refl
@@ -216,28 +202,28 @@ module _ {V : Type 0} (told : V → Option Disk) (may_leave : V → Disk → Typ
     none_behind Next none old text new step r = refl
     none_behind (SetFuse passes) none old text new step r = refl
 
-    restarted_none : (Safe : Disk → Type 0) (old : Program V) (text : List ℕ) (new : Program V) (step : StepsRestart told may_leave moment left_since faults limit old text new) → Calm Safe old
-        → NoneEscapesRestarted told may_leave moment left_since faults limit cuts precheck Safe old text new step
+    restarted_none : (Safe : Disk → Type 0) (old : Program V) (text : List ℕ) (new : Program V) (step : StepsRestart g limit old text new) → Calm Safe old
+        → NoneEscapesRestarted g limit precheck Safe old text new step
     restarted_none Safe old text new (inl step) calm = none_read Safe old calm
     restarted_none Safe old text new (inr stops) calm = tt
 
     left_none : (Safe : Disk → Type 0) (command : Command) (old : Program V) (text : List ℕ) (new : Program V)
-        → (step : Steps told may_leave moment left_since faults limit cuts precheck old command text new) → Calm Safe old
-        → NoneEscapesLeft told may_leave moment left_since faults limit cuts precheck Safe command old text new step
+        → (step : Steps g limit precheck old command text new) → Calm Safe old
+        → NoneEscapesLeft g limit precheck Safe command old text new step
     left_none Safe (Size index heap) old text new step calm = none_read Safe old calm
     left_none Safe Open old text new step calm = restarted_none Safe old text new step calm
     left_none Safe Restart old text new step calm = restarted_none Safe old text new step calm
     left_none Safe (Crash choice) old text new step calm = some_read (NoneEscapesIn Safe old) step.store (λ c may. none_in Safe old calm c (step.left.crash c may))
     left_none Safe _ old text new step calm = tt
 
-    safe_restarted : (Safe : Disk → Type 0) (old : Program V) (text : List ℕ) (new : Program V) (step : StepsRestart told may_leave moment left_since faults limit old text new) → Calm Safe old
-        → (c : Disk) → SafeRestarted told may_leave moment left_since faults limit cuts precheck Safe old text new step c
+    safe_restarted : (Safe : Disk → Type 0) (old : Program V) (text : List ℕ) (new : Program V) (step : StepsRestart g limit old text new) → Calm Safe old
+        → (c : Disk) → SafeRestarted g limit precheck Safe old text new step c
     safe_restarted Safe old text new (inl step) calm c = tt
     safe_restarted Safe old text new (inr stops) calm c = making_honest Safe old calm c
 
     safe_behind : (Safe : Disk → Type 0) (command : Command) (old : Program V) (text : List ℕ) (new : Program V)
-        → (step : Steps told may_leave moment left_since faults limit cuts precheck old command text new) → Calm Safe old
-        → (c : Disk) → SafeBehind told may_leave moment left_since faults limit cuts precheck Safe command old text new step c
+        → (step : Steps g limit precheck old command text new) → Calm Safe old
+        → (c : Disk) → SafeBehind g limit precheck Safe command old text new step c
     safe_behind Safe (Size index heap) old text new step calm c = tt
     safe_behind Safe Open old text new step calm c = safe_restarted Safe old text new step calm c
     safe_behind Safe Restart old text new step calm c = safe_restarted Safe old text new step calm c
@@ -245,48 +231,48 @@ module _ {V : Type 0} (told : V → Option Disk) (may_leave : V → Disk → Typ
     safe_behind Safe _ old text new step calm c = calm.safe c
 
     calm_step : (Safe : Disk → Type 0) (command : Command) → IsFit command → pokes command ≡ false → (old : Program V) (text : List ℕ) (new : Program V)
-        → (step : Steps told may_leave moment left_since faults limit cuts precheck old command text new) → Calm Safe old
-        → Calm (SafeBehind told may_leave moment left_since faults limit cuts precheck Safe command old text new step) new
+        → (step : Steps g limit precheck old command text new) → Calm Safe old
+        → Calm (SafeBehind g limit precheck Safe command old text new step) new
     calm_step Safe command fit none old text new step calm =
-        let onward = step_goes told may_leave moment left_since faults reads_now counts_now limit cuts precheck Safe command calm.base old new text step calm.point (left_none Safe command old text new step calm) in
-        let are = step_told told may_leave moment left_since faults reads_now counts_now limit cuts precheck command fit nothing old new text step (stands_of told may_leave faults Safe calm.base old calm.point) calm.none in
+        let onward = step_goes g reads_now counts_now limit precheck Safe command calm.base old new text step calm.point (left_none Safe command old text new step calm) in
+        let are = step_told g reads_now counts_now limit precheck command fit nothing old new text step (stands_of g Safe calm.base old calm.point) calm.none in
         record {
           base = onward.log;
           point = onward.point;
-          none = none_told (masks_behind told may_leave moment left_since faults limit cuts precheck command old text new step nothing) new (none_behind command none old text new step) are;
+          none = none_told (masks_behind g limit precheck command old text new step nothing) new (none_behind command none old text new step) are;
           safe = safe_behind Safe command old text new step calm;
         }
 
     -- ---- a command that failed: no damage escapes from what a crash leaves of its store
-    lost_honest : (Safe : Disk → Type 0) (blocks : List Blocks) (old : Program V) (f : Fuse V) (lost : Lost told may_leave moment left_since faults precheck blocks old f) → AreQuiet blocks → Calm Safe old
-        → (c : Disk) → may_leave (inner f) c → NoneEscapesCut told may_leave moment left_since faults limit cuts precheck Safe blocks old f lost c
-    lost_honest Safe blocks (Up core) f (inl same) quiet calm = subst (λ (x : Fuse V). (c : Disk) → may_leave (inner x) c → NoneEscapesFrom core c) (sym same) (none_in Safe (Up core) calm)
+    lost_honest : (Safe : Disk → Type 0) (blocks : List Blocks) (old : Program V) (f : Fuse V) (lost : Lost g precheck blocks old f) → AreQuiet blocks → Calm Safe old
+        → (c : Disk) → g.may_leave (inner f) c → NoneEscapesCut g limit precheck Safe blocks old f lost c
+    lost_honest Safe blocks (Up core) f (inl same) quiet calm = subst (λ (x : Fuse V). (c : Disk) → g.may_leave (inner x) c → NoneEscapesFrom core c) (sym same) (none_in Safe (Up core) calm)
     lost_honest Safe blocks (Up core) f (inr played) quiet calm =
-        subst (λ (x : Fuse V). (c : Disk) → may_leave (inner x) c → NoneEscapesFrom played.core c) (sym played.store)
-        (round_honest told may_leave faults precheck played.whole calm.base blocks core played.core played.transcripts quiet played.longer played.plays calm.point (none_poked core calm.none))
+        subst (λ (x : Fuse V). (c : Disk) → g.may_leave (inner x) c → NoneEscapesFrom played.core c) (sym played.store)
+        (round_honest g precheck played.whole calm.base blocks core played.core played.transcripts quiet played.longer played.plays calm.point (none_poked core calm.none))
     lost_honest Safe blocks (Down store) f lost quiet calm = λ c may. calm.safe c
 
-    alone_honest : (Safe : Disk → Type 0) (act : Act) (old : Program V) (f : Fuse V) (fails : AloneFails told may_leave moment left_since faults precheck act old f) → AreQuiet (alone act) → Calm Safe old
-        → (c : Disk) → may_leave (inner f) c → NoneEscapesAlone told may_leave moment left_since faults limit cuts precheck Safe act old f fails c
+    alone_honest : (Safe : Disk → Type 0) (act : Act) (old : Program V) (f : Fuse V) (fails : AloneFails g precheck act old f) → AreQuiet (alone act) → Calm Safe old
+        → (c : Disk) → g.may_leave (inner f) c → NoneEscapesAlone g limit precheck Safe act old f fails c
     alone_honest Safe act (Up core) f fails quiet calm =
-        subst (λ (x : Fuse V). (c : Disk) → may_leave (inner x) c → NoneEscapesFrom fails.core c) (sym fails.store)
-        (round_honest told may_leave faults precheck true calm.base (alone act) core fails.core fails.transcripts quiet fails.longer fails.plays calm.point (none_poked core calm.none))
+        subst (λ (x : Fuse V). (c : Disk) → g.may_leave (inner x) c → NoneEscapesFrom fails.core c) (sym fails.store)
+        (round_honest g precheck true calm.base (alone act) core fails.core fails.transcripts quiet fails.longer fails.plays calm.point (none_poked core calm.none))
     alone_honest Safe act (Down store) f fails quiet calm = λ c may. calm.safe c
 
     -- where a crash leaves nothing else than before
-    less_honest : (Safe : Disk → Type 0) (old : Program V) (f : Fuse V) → ((c : Disk) → may_leave (inner f) c → may_leave (inner (store_of old)) c) → Calm Safe old
-        → (c : Disk) → may_leave (inner f) c → NoneEscapesIn Safe old c
+    less_honest : (Safe : Disk → Type 0) (old : Program V) (f : Fuse V) → ((c : Disk) → g.may_leave (inner f) c → g.may_leave (inner (store_of old)) c) → Calm Safe old
+        → (c : Disk) → g.may_leave (inner f) c → NoneEscapesIn Safe old c
     less_honest Safe old f less calm c may = none_in Safe old calm c (less c may)
 
-    same_less : (s t : V) → t ≡ s → (c : Disk) → may_leave t c → may_leave s c
-    same_less s t same c may = subst (λ (x : V). may_leave x c) same may
+    same_less : (s t : V) → t ≡ s → (c : Disk) → g.may_leave t c → g.may_leave s c
+    same_less s t same c may = subst (λ (x : V). g.may_leave x c) same may
 
-    same_fuse : (old : Program V) (f : Fuse V) → f ≡ store_of old → (c : Disk) → may_leave (inner f) c → may_leave (inner (store_of old)) c
+    same_fuse : (old : Program V) (f : Fuse V) → f ≡ store_of old → (c : Disk) → g.may_leave (inner f) c → g.may_leave (inner (store_of old)) c
     same_fuse old f same = same_less (inner (store_of old)) (inner f) (ap (λ (x : Fuse V). inner x) same)
 
     broken_honest : (Safe : Disk → Type 0) (command : Command) → IsFit command → pokes command ≡ false → (old : Program V) (f : Fuse V)
-        → (breaks : Breaks told may_leave moment left_since faults precheck command old f) → Calm Safe old
-        → (c : Disk) → may_leave (inner f) c → NoneEscapesLost told may_leave moment left_since faults limit cuts precheck Safe command old f breaks c
+        → (breaks : Breaks g precheck command old f) → Calm Safe old
+        → (c : Disk) → g.may_leave (inner f) c → NoneEscapesLost g limit precheck Safe command old f breaks c
     broken_honest Safe (Size index heap) fit none old f breaks calm c may = making_honest Safe old calm c
     broken_honest Safe Open fit none old f breaks calm c may = making_honest Safe old calm c
     broken_honest Safe Restart fit none old f breaks calm c may = making_honest Safe old calm c
@@ -302,8 +288,8 @@ module _ {V : Type 0} (told : V → Option Disk) (may_leave : V → Disk → Typ
     broken_honest Safe Verify fit none old f breaks calm c may = less_honest Safe old f breaks.0.crash calm c may
 
     failed_honest : (Safe : Disk → Type 0) (command : Command) → pokes command ≡ false → (old : Program V) (f : Fuse V)
-        → (fails : StoreFailsIn told may_leave moment left_since faults precheck command old f) → Calm Safe old
-        → (c : Disk) → may_leave (inner f) c → NoneEscapesFailed told may_leave moment left_since faults limit cuts precheck Safe command old f fails c
+        → (fails : StoreFailsIn g precheck command old f) → Calm Safe old
+        → (c : Disk) → g.may_leave (inner f) c → NoneEscapesFailed g limit precheck Safe command old f fails c
     failed_honest Safe (Size index heap) none old f fails calm c may = making_honest Safe old calm c
     failed_honest Safe Open none old f fails calm c may = making_honest Safe old calm c
     failed_honest Safe Restart none old f fails calm c may = making_honest Safe old calm c
@@ -319,8 +305,8 @@ module _ {V : Type 0} (told : V → Option Disk) (may_leave : V → Disk → Typ
     failed_honest Safe (SetFuse passes) none old f fails calm c may = absurd fails
 
     pub behind_honest : (Safe : Disk → Type 0) (halt : Halt) (command : Command) → IsFit command → pokes command ≡ false → (old : Program V) (f : Fuse V)
-        → (fails : Fails told may_leave moment left_since faults precheck halt command old f) → Calm Safe old
-        → (c : Disk) → may_leave (inner f) c → NoneEscapesBehind told may_leave moment left_since faults limit cuts precheck Safe halt command old f fails c
+        → (fails : Fails g precheck halt command old f) → Calm Safe old
+        → (c : Disk) → g.may_leave (inner f) c → NoneEscapesBehind g limit precheck Safe halt command old f fails c
     behind_honest Safe halts.StoreFault command fit none old f fails calm = failed_honest Safe command none old f fails calm
     behind_honest Safe halts.OutOfMemory command fit none old f fails calm = broken_honest Safe command fit none old f fails calm
     behind_honest Safe (halts.BadStore file at) command fit none old f fails calm = less_honest Safe old f fails.2.crash calm
@@ -335,17 +321,17 @@ module _ {V : Type 0} (told : V → Option Disk) (may_leave : V → Disk → Typ
 
     -- ---- within a round of a script without pokes
     step_honest : (Safe : Disk → Type 0) (command : Command) → IsFit command → pokes command ≡ false → (old : Program V) (text : List ℕ) (new : Program V)
-        → (step : Steps told may_leave moment left_since faults limit cuts precheck old command text new) → Calm Safe old
-        → StepIsHonest told may_leave moment left_since faults limit cuts precheck command old text new step
+        → (step : Steps g limit precheck old command text new) → Calm Safe old
+        → StepIsHonest g limit precheck command old text new step
     step_honest Safe (Round blocks) fit none (Up core) text new step calm =
-        round_within told may_leave faults precheck true calm.base (map told_by blocks) core step.0 step.1.transcripts (are_quiet blocks fit.placed none) step.1.plays calm.point (none_poked core calm.none)
+        round_within g precheck true calm.base (map told_by blocks) core step.0 step.1.transcripts (are_quiet blocks fit.placed none) step.1.plays calm.point (none_poked core calm.none)
     step_honest Safe (Round blocks) fit none (Down store) text new step calm = tt
     step_honest Safe (Poke region word mask) fit none old text new step calm = absurd (cc none)
     step_honest Safe Audit fit none (Up core) text new step calm =
-        round_within told may_leave faults precheck true calm.base (alone Audits) core step.0 step.1.transcripts ((tt, refl), tt) step.1.plays calm.point (none_poked core calm.none)
+        round_within g precheck true calm.base (alone Audits) core step.0 step.1.transcripts ((tt, refl), tt) step.1.plays calm.point (none_poked core calm.none)
     step_honest Safe Audit fit none (Down store) text new step calm = tt
     step_honest Safe Checkpoint fit none (Up core) text new step calm =
-        round_within told may_leave faults precheck true calm.base (alone Checkpoints) core step.0 step.1.transcripts ((tt, refl), tt) step.1.plays calm.point (none_poked core calm.none)
+        round_within g precheck true calm.base (alone Checkpoints) core step.0 step.1.transcripts ((tt, refl), tt) step.1.plays calm.point (none_poked core calm.none)
     step_honest Safe Checkpoint fit none (Down store) text new step calm = tt
     step_honest Safe (Size index heap) fit none old text new step calm = tt
     step_honest Safe Open fit none old text new step calm = tt
@@ -357,22 +343,22 @@ module _ {V : Type 0} (told : V → Option Disk) (may_leave : V → Disk → Typ
     step_honest Safe Next fit none old text new step calm = tt
     step_honest Safe (SetFuse passes) fit none old text new step calm = tt
 
-    lost_within : (Safe : Disk → Type 0) (blocks : List Blocks) (old : Program V) (f : Fuse V) (lost : Lost told may_leave moment left_since faults precheck blocks old f) → AreQuiet blocks → Calm Safe old
-        → LostIsHonest told may_leave moment left_since faults limit cuts precheck blocks old f lost
+    lost_within : (Safe : Disk → Type 0) (blocks : List Blocks) (old : Program V) (f : Fuse V) (lost : Lost g precheck blocks old f) → AreQuiet blocks → Calm Safe old
+        → LostIsHonest g limit precheck blocks old f lost
     lost_within Safe blocks (Up core) f (inl same) quiet calm = tt
     lost_within Safe blocks (Up core) f (inr played) quiet calm =
-        round_within told may_leave faults precheck played.whole calm.base blocks core played.core played.transcripts quiet played.plays calm.point (none_poked core calm.none)
+        round_within g precheck played.whole calm.base blocks core played.core played.transcripts quiet played.plays calm.point (none_poked core calm.none)
     lost_within Safe blocks (Down store) f lost quiet calm = tt
 
-    lone_within : (Safe : Disk → Type 0) (act : Act) (old : Program V) (f : Fuse V) (fails : AloneFails told may_leave moment left_since faults precheck act old f) → AreQuiet (alone act) → Calm Safe old
-        → LoneIsHonest told may_leave moment left_since faults limit cuts precheck act old f fails
+    lone_within : (Safe : Disk → Type 0) (act : Act) (old : Program V) (f : Fuse V) (fails : AloneFails g precheck act old f) → AreQuiet (alone act) → Calm Safe old
+        → LoneIsHonest g limit precheck act old f fails
     lone_within Safe act (Up core) f fails quiet calm =
-        round_within told may_leave faults precheck true calm.base (alone act) core fails.core fails.transcripts quiet fails.plays calm.point (none_poked core calm.none)
+        round_within g precheck true calm.base (alone act) core fails.core fails.transcripts quiet fails.plays calm.point (none_poked core calm.none)
     lone_within Safe act (Down store) f fails quiet calm = tt
 
     broken_within : (Safe : Disk → Type 0) (command : Command) → IsFit command → pokes command ≡ false → (old : Program V) (f : Fuse V)
-        → (breaks : Breaks told may_leave moment left_since faults precheck command old f) → Calm Safe old
-        → BrokenIsHonest told may_leave moment left_since faults limit cuts precheck command old f breaks
+        → (breaks : Breaks g precheck command old f) → Calm Safe old
+        → BrokenIsHonest g limit precheck command old f breaks
     broken_within Safe (Round blocks) fit none old f breaks calm = lost_within Safe (map told_by blocks) old f breaks (are_quiet blocks fit.placed none) calm
     broken_within Safe (Poke region word mask) fit none old f breaks calm = absurd (cc none)
     broken_within Safe Audit fit none old f breaks calm = lost_within Safe (alone Audits) old f breaks ((tt, refl), tt) calm
@@ -380,33 +366,33 @@ module _ {V : Type 0} (told : V → Option Disk) (may_leave : V → Disk → Typ
     broken_within Safe _ fit none old f breaks calm = tt
 
     failed_within : (Safe : Disk → Type 0) (command : Command) → pokes command ≡ false → (old : Program V) (f : Fuse V)
-        → (fails : StoreFailsIn told may_leave moment left_since faults precheck command old f) → Calm Safe old
-        → FailedIsHonest told may_leave moment left_since faults limit cuts precheck command old f fails
+        → (fails : StoreFailsIn g precheck command old f) → Calm Safe old
+        → FailedIsHonest g limit precheck command old f fails
     failed_within Safe (Poke region word mask) none old f fails calm = absurd (cc none)
     failed_within Safe Audit none old f fails calm = lone_within Safe Audits old f fails ((tt, refl), tt) calm
     failed_within Safe Checkpoint none old f fails calm = lone_within Safe Checkpoints old f fails ((tt, refl), tt) calm
     failed_within Safe _ none old f fails calm = tt
 
     fail_honest : (Safe : Disk → Type 0) (halt : Halt) (command : Command) → IsFit command → pokes command ≡ false → (old : Program V) (f : Fuse V)
-        → (fails : Fails told may_leave moment left_since faults precheck halt command old f) → Calm Safe old
-        → FailIsHonest told may_leave moment left_since faults limit cuts precheck halt command old f fails
+        → (fails : Fails g precheck halt command old f) → Calm Safe old
+        → FailIsHonest g limit precheck halt command old f fails
     fail_honest Safe halts.StoreFault command fit none old f fails calm = failed_within Safe command none old f fails calm
     fail_honest Safe halts.OutOfMemory command fit none old f fails calm = broken_within Safe command fit none old f fails calm
     fail_honest Safe _ command fit none old f fails calm = tt
 
     -- ---- some commands
     record Walked (Safe : Disk → Type 0) (commands : List Command) (old : Program V) (text : List ℕ) (new : Program V)
-        (runs : RunsAll told may_leave moment left_since faults limit cuts precheck old commands text new) : Type 0 where
-      each : NoneEscape told may_leave moment left_since faults limit cuts precheck Safe commands old text new runs
-      within : StepsAreHonest told may_leave moment left_since faults limit cuts precheck commands old text new runs
-      calm : Calm (SafeAfter told may_leave moment left_since faults limit cuts precheck Safe commands old text new runs) new
+        (runs : RunsAll g limit precheck old commands text new) : Type 0 where
+      each : NoneEscape g limit precheck Safe commands old text new runs
+      within : StepsAreHonest g limit precheck commands old text new runs
+      calm : Calm (SafeAfter g limit precheck Safe commands old text new runs) new
 
     walk : (Safe : Disk → Type 0) (commands : List Command) → AreFit commands → list_any pokes commands ≡ false → (old : Program V) (text : List ℕ) (new : Program V)
-        → (runs : RunsAll told may_leave moment left_since faults limit cuts precheck old commands text new) → Calm Safe old → Walked Safe commands old text new runs
+        → (runs : RunsAll g limit precheck old commands text new) → Calm Safe old → Walked Safe commands old text new runs
     walk Safe [] fit none old text new runs calm = record { each = tt; within = tt; calm = calm_same Safe old new runs.1 calm }
     walk Safe (command ∷ later) fit none old text new runs calm =
         let parts = or_parts (pokes command) (list_any pokes later) none in
-        let rest = walk (SafeBehind told may_leave moment left_since faults limit cuts precheck Safe command old runs.0 runs.1 runs.3) later fit.1 parts.1 runs.1 runs.2 new runs.4
+        let rest = walk (SafeBehind g limit precheck Safe command old runs.0 runs.1 runs.3) later fit.1 parts.1 runs.1 runs.2 new runs.4
         (calm_step Safe command fit.0 parts.0 old runs.0 runs.1 runs.3 calm) in
         record {
           each = (left_none Safe command old runs.0 runs.1 runs.3 calm, rest.each);
@@ -414,34 +400,34 @@ module _ {V : Type 0} (told : V → Option Disk) (may_leave : V → Disk → Typ
           calm = rest.calm;
         }
 
-    walked : (base : List Record) (start : V) (script : List Command) → AreFit script → list_any pokes script ≡ false → IsOwn told may_leave base start → (count : ℕ) (text : List ℕ) (new : Program V)
-        → (run : HasRun told may_leave moment left_since faults limit cuts precheck start script count text new) → Walked AnyFiles (take count script) run.first text new run.runs
+    walked : (base : List Record) (start : V) (script : List Command) → AreFit script → list_any pokes script ≡ false → IsOwn g base start → (count : ℕ) (text : List ℕ) (new : Program V)
+        → (run : HasRun g limit precheck start script count text new) → Walked AnyFiles (take count script) run.first text new run.runs
     walked base start script fit none own count text new run =
         walk AnyFiles (take count script) (fit_front count script fit) (front_none count script none) run.first text new run.runs (calm_down base run.first start run.down own)
 
     -- ---- a script
-    module _ (c : Course V) (mid : Option (List ℕ)) (count : ℕ) (base : List Record) (own : IsOwn told may_leave base c.store)
+    module _ (c : Course V) (mid : Option (List ℕ)) (count : ℕ) (base : List Record) (own : IsOwn g base c.store)
         (nowhere : (script : List Command) → Spells c.left script c.left' → list_any pokes script ≡ false) where
       -- along the commands, of the last one, and of the store that comes back
-      record StopsHonest (halt : Halt) (stopped : HasStopped told may_leave moment left_since faults limit cuts precheck halt c mid) : Type 0 where
-        before : NoneEscapesStopped told may_leave moment left_since faults limit cuts precheck c mid count halt stopped
-        found : NoneEscapesFound told may_leave moment left_since faults limit cuts precheck c mid count halt stopped
-        behind : (d : Disk) → may_leave c.store' d → SafeByHalt told may_leave moment left_since faults limit cuts precheck c mid count halt stopped d
-        within : HaltEscapesNone told may_leave moment left_since faults limit cuts precheck c mid count halt stopped
+      record StopsHonest (halt : Halt) (stopped : HasStopped g limit precheck halt c mid) : Type 0 where
+        before : NoneEscapesStopped g limit precheck c mid count halt stopped
+        found : NoneEscapesFound g limit precheck c mid count halt stopped
+        behind : (d : Disk) → g.may_leave c.store' d → SafeByHalt g limit precheck c mid count halt stopped d
+        within : HaltEscapesNone g limit precheck c mid count halt stopped
 
-      stop_honest : (halt : Halt) (stopped : HasStopped told may_leave moment left_since faults limit cuts precheck halt c mid) → StopsHonest halt stopped
+      stop_honest : (halt : Halt) (stopped : HasStopped g limit precheck halt c mid) → StopsHonest halt stopped
       stop_honest halt stopped =
           let stops = stopped.2 in
           let fit = all_fit stopped.1.bytes stopped.0 stopped.1.spelled in
           let none = nowhere stopped.0 stopped.1 in
-          let safe = SafeThere told may_leave moment left_since faults limit cuts precheck c.store stopped.0 stops.count stops.text stops.state stops.run in
+          let safe = SafeThere g limit precheck c.store stopped.0 stops.count stops.text stops.state stops.run in
           let gone = walked base c.store stopped.0 fit none own stops.count stops.text stops.state stops.run in
           record {
             before = gone.each;
             found = none_read safe stops.state gone.calm;
             behind = λ d may.
                 behind_honest safe halt stops.command (next_fit stopped.0 stops.count stops.command fit stops.next.next) (next_none stopped.0 stops.count stops.command none stops.next.next) stops.state stops.last
-                stops.fails gone.calm d (subst (λ (x : V). may_leave x d) (sym stops.store) may);
+                stops.fails gone.calm d (subst (λ (x : V). g.may_leave x d) (sym stops.store) may);
             within = (
               gone.within,
               fail_honest safe halt stops.command (next_fit stopped.0 stops.count stops.command fit stops.next.next) (next_none stopped.0 stops.count stops.command none stops.next.next) stops.state stops.last
@@ -449,36 +435,36 @@ module _ {V : Type 0} (told : V → Option Disk) (may_leave : V → Disk → Typ
             );
           }
 
-      abbrev RunIsHonest : (status : Status) → EndedScript told may_leave moment left_since faults limit cuts precheck c mid count status → Type 0
+      abbrev RunIsHonest : (status : Status) → EndedScript g limit precheck c mid count status → Type 0
       RunIsHonest status ended =
-          ScriptIsHonest told may_leave moment left_since faults limit cuts precheck c mid count status ended
-          × ((d : Disk) → may_leave c.store' d → SafeAtEnd told may_leave moment left_since faults limit cuts precheck c mid count status ended d)
-          × RoundsEscapeNone told may_leave moment left_since faults limit cuts precheck c mid count status ended
+          ScriptIsHonest g limit precheck c mid count status ended
+          × ((d : Disk) → g.may_leave c.store' d → SafeAtEnd g limit precheck c mid count status ended d)
+          × RoundsEscapeNone g limit precheck c mid count status ended
 
-      memory_honest : (o : Untouched c mid ⊎ HasStopped told may_leave moment left_since faults limit cuts precheck halts.OutOfMemory c mid)
-          → NoneEscapesWanting told may_leave moment left_since faults limit cuts precheck c mid count o × ((d : Disk) → may_leave c.store' d → SafeByWant told may_leave moment left_since faults limit cuts precheck c mid count o d)
-          × WantEscapesNone told may_leave moment left_since faults limit cuts precheck c mid count o
+      memory_honest : (o : Untouched c mid ⊎ HasStopped g limit precheck halts.OutOfMemory c mid)
+          → NoneEscapesWanting g limit precheck c mid count o × ((d : Disk) → g.may_leave c.store' d → SafeByWant g limit precheck c mid count o d)
+          × WantEscapesNone g limit precheck c mid count o
       memory_honest (inl same) = (tt, (λ d may. tt), tt)
       memory_honest (inr stopped) = let stop = stop_honest halts.OutOfMemory stopped in (stop.before, stop.behind, stop.within)
 
-      script_honest : (status : Status) (ended : EndedScript told may_leave moment left_since faults limit cuts precheck c mid count status) → RunIsHonest status ended
+      script_honest : (status : Status) (ended : EndedScript g limit precheck c mid count status) → RunIsHonest status ended
       script_honest Done ended =
           let ran = ended.2 in
-          let safe = SafeThere told may_leave moment left_since faults limit cuts precheck c.store ended.0 (length ended.0) ran.text ran.state ran.run in
+          let safe = SafeThere g limit precheck c.store ended.0 (length ended.0) ran.text ran.state ran.run in
           let gone = walked base c.store ended.0 (all_fit ended.1.bytes ended.0 ended.1.spelled) (nowhere ended.0 ended.1) own (length ended.0) ran.text ran.state ran.run in
-          ((gone.each, tt), (λ d may. none_in safe ran.state gone.calm d (subst (λ (x : V). may_leave x d) (sym ran.store) may)), gone.within)
+          ((gone.each, tt), (λ d may. none_in safe ran.state gone.calm d (subst (λ (x : V). g.may_leave x d) (sym ran.store) may)), gone.within)
       script_honest WriteFault ended =
           let script = ended.1.0 in
           let cut = ended.1.2 in
           let fit = all_fit ended.1.1.bytes script ended.1.1.spelled in
           let none = nowhere script ended.1.1 in
-          let there = SafeThere told may_leave moment left_since faults limit cuts precheck c.store script cut.count cut.text cut.earlier cut.ran in
-          let safe = SafeCut told may_leave moment left_since faults limit cuts precheck c.store script c.taken mid c.store' cut in
+          let there = SafeThere g limit precheck c.store script cut.count cut.text cut.earlier cut.ran in
+          let safe = SafeCut g limit precheck c.store script c.taken mid c.store' cut in
           let gone = walked base c.store script fit none own cut.count cut.text cut.earlier cut.ran in
           let calm : Calm safe cut.state =
           calm_step there cut.command (next_fit script cut.count cut.command fit cut.next.next) (next_none script cut.count cut.command none cut.next.next) cut.earlier cut.more cut.state cut.steps gone.calm in (
             (gone.each, left_none there cut.command cut.earlier cut.more cut.state cut.steps gone.calm),
-            λ d may. none_in safe cut.state calm d (subst (λ (x : V). may_leave x d) (sym cut.store) may),
+            λ d may. none_in safe cut.state calm d (subst (λ (x : V). g.may_leave x d) (sym cut.store) may),
             (
               gone.within,
               step_honest there cut.command (next_fit script cut.count cut.command fit cut.next.next) (next_none script cut.count cut.command none cut.next.next) cut.earlier cut.more cut.state cut.steps
@@ -497,79 +483,79 @@ module _ {V : Type 0} (told : V → Option Disk) (may_leave : V → Disk → Typ
       script_honest (LogFull end most) ended = ((tt, tt), (λ d may. tt), tt)
 
   -- ---- a generated script
-  module _ (clients size number : ℕ) (within : AreWithin clients size) (c : Course V) (base : List Record) (own : IsOwn told may_leave base c.store) where
+  module _ (clients size number : ℕ) (within : AreWithin clients size) (c : Course V) (base : List Record) (own : IsOwn g base c.store) where
     blocks_fit : AreBlocks (map told_by (generated clients size number))
     blocks_fit = right_blocks (generated clients size number) (right_round clients size number within)
 
-    pub calm_made : (made : Core (Fuse V)) → IsMade told may_leave moment left_since faults 67108864 clients size c.store made → Calm AnyFiles (Up made)
+    pub calm_made : (made : Core (Fuse V)) → IsMade g 67108864 clients size c.store made → Calm AnyFiles (Up made)
     calm_made made is_made =
         calm_step 67108864 false AnyFiles (Size (index_regions clients size) (heap_regions clients size)) (right_sizes clients size within) refl is_made.first [] (Up made) is_made.steps
         (calm_down base is_made.first c.store is_made.down own)
 
-    pub calm_played : (ends : Option Halt) (run : IsPlayed told may_leave moment left_since faults 67108864 clients size number c.store ends) → Calm AnyFiles (Up run.played)
+    pub calm_played : (ends : Option Halt) (run : IsPlayed g 67108864 clients size number c.store ends) → Calm AnyFiles (Up run.played)
     calm_played ends run =
         calm_step 67108864 false AnyFiles (Round (generated clients size number)) blocks_fit (blocks_none number size clients 1) (Up run.made) run.round.text (Up run.played) (run.played, run.round.round, refl)
         (calm_made run.made run.is_made)
 
     -- nobody wrote astray in the round
-    pub played_unpoked : (ends : Option Halt) (run : IsPlayed told may_leave moment left_since faults 67108864 clients size number c.store ends) → NonePoked run.played.regions.items
+    pub played_unpoked : (ends : Option Halt) (run : IsPlayed g 67108864 clients size number c.store ends) → NonePoked run.played.regions.items
     played_unpoked ends run = none_poked run.played (calm_played ends run).none
 
-    pub calm_crashed : (run : IsCrashed told may_leave moment left_since faults 67108864 clients size number cuts c.store) → Calm AnyFiles run.crashed
+    pub calm_crashed : (run : IsCrashed g 67108864 clients size number c.store) → Calm AnyFiles run.crashed
     calm_crashed run = calm_step 67108864 false AnyFiles (Crash 0) tt refl (Up run.run.played) run.text run.crashed run.crash (calm_played None run.run)
 
-    pub played_honest : (ends : Option Halt) (run : IsPlayed told may_leave moment left_since faults 67108864 clients size number c.store ends)
-        → PlayedIsHonest told may_leave moment left_since faults cuts clients size number c.store ends run
+    pub played_honest : (ends : Option Halt) (run : IsPlayed g 67108864 clients size number c.store ends)
+        → PlayedIsHonest g clients size number c.store ends run
     played_honest ends run = none_in AnyFiles (Up run.played) (calm_played ends run)
 
-    pub found_honest : (core : Core (Fuse V)) (run : GeneratorFinds told may_leave moment left_since faults cuts clients size number c.store core)
-        → FoundIsHonest told may_leave moment left_since faults cuts clients size number c.store core run
+    pub found_honest : (core : Core (Fuse V)) (run : GeneratorFinds g clients size number c.store core)
+        → FoundIsHonest g clients size number c.store core run
     found_honest core run =
         let found = calm_step 67108864 false AnyFiles Restart tt refl run.run.crashed run.text (Up core) (inl run.restart) (calm_crashed run.run) in
         (played_honest None run.run.run, none_in AnyFiles (Up core) found)
 
-    stops_honest : (halt : Halt) (stops : GeneratorStops told may_leave moment left_since faults cuts clients size number halt c.store c.store')
-        → GeneratorStopIsHonest told may_leave moment left_since faults cuts clients size number halt c.store c.store' stops
+    stops_honest : (halt : Halt) (stops : GeneratorStops g clients size number halt c.store c.store')
+        → GeneratorStopIsHonest g clients size number halt c.store c.store' stops
     stops_honest halt (inl first) = tt
     stops_honest halt (inr (inl crash)) = played_honest None crash.0
     stops_honest halt (inr (inr restart)) = played_honest None restart.0.run
 
     -- nor in one that was cut
-    pub cut_unpoked : (made : Core (Fuse V)) → IsMade told may_leave moment left_since faults 67108864 clients size c.store made → (f : Fuse V)
-        → (cut : Played told may_leave moment left_since faults false (map told_by (generated clients size number)) made f) → NonePoked cut.core.regions.items
+    pub cut_unpoked : (made : Core (Fuse V)) → IsMade g 67108864 clients size c.store made → (f : Fuse V)
+        → (cut : Played g false (map told_by (generated clients size number)) made f) → NonePoked cut.core.regions.items
     cut_unpoked made is_made f cut =
         let calm = calm_made made is_made in
-        round_unpoked told may_leave faults false cut.whole calm.base (map told_by (generated clients size number)) made cut.core cut.transcripts
+        round_unpoked g false cut.whole calm.base (map told_by (generated clients size number)) made cut.core cut.transcripts
         (are_quiet (generated clients size number) blocks_fit.placed (blocks_none number size clients 1)) cut.plays calm.point (none_poked made calm.none)
 
-    cut_honest : (made : Core (Fuse V)) (f : Fuse V) (cut : IsCutRound told may_leave moment left_since faults (map told_by (generated clients size number)) made f) → Calm AnyFiles (Up made)
-        → CutIsHonest told may_leave moment left_since faults cuts clients size number made f cut
+    cut_honest : (made : Core (Fuse V)) (f : Fuse V) (cut : IsCutRound g (map told_by (generated clients size number)) made f) → Calm AnyFiles (Up made)
+        → CutIsHonest g clients size number made f cut
     cut_honest made f (inl none) calm = none_in AnyFiles (Up made) calm
     cut_honest made f (inr cut) calm =
         let played = cut.0 in
-        round_honest told may_leave faults false played.whole calm.base (map told_by (generated clients size number)) made played.core played.transcripts
+        round_honest g false played.whole calm.base (map told_by (generated clients size number)) made played.core played.transcripts
         (are_quiet (generated clients size number) blocks_fit.placed (blocks_none number size clients 1)) played.longer played.plays calm.point (none_poked made calm.none)
 
-    pub loss_honest : (lost : GeneratorLoses told may_leave moment left_since faults cuts clients size number c.store c.store')
-        → LossIsHonest told may_leave moment left_since faults cuts clients size number c.store c.store' lost
+    pub loss_honest : (lost : GeneratorLoses g clients size number c.store c.store')
+        → LossIsHonest g clients size number c.store c.store' lost
     loss_honest lost = cut_honest lost.made lost.left lost.cut (calm_made lost.made lost.is_made)
 
-    fault_honest : (f : GeneratorFails told may_leave moment left_since faults cuts clients size number c.store c.store')
-        → FaultIsHonest told may_leave moment left_since faults cuts clients size number c None 0 f
+    fault_honest : (f : GeneratorFails g clients size number c.store c.store')
+        → FaultIsHonest g clients size number c None 0 f
     fault_honest (inl stops) = stops_honest halts.StoreFault stops
     fault_honest (inr (inl refused)) = played_honest (Some halts.StoreFault) refused.run
     fault_honest (inr (inr none)) = played_honest None none.run.run
 
-    want_honest : (w : GeneratorWants told may_leave moment left_since faults cuts clients size number c.store c.store')
-        → WantIsHonest told may_leave moment left_since faults cuts clients size number c None 0 w
+    want_honest : (w : GeneratorWants g clients size number c.store c.store')
+        → WantIsHonest g clients size number c None 0 w
     want_honest (inl same) = tt
     want_honest (inr (inl (inl stops))) = stops_honest halts.OutOfMemory stops
     want_honest (inr (inl (inr lost))) = loss_honest lost
     want_honest (inr (inr (inl refused))) = played_honest (Some halts.OutOfMemory) refused.run
     want_honest (inr (inr (inr last))) = found_honest last.0 last.1
 
-    generator_honest : (mid : Option (List ℕ)) (count : ℕ) (status : Status) (ended : EndedGenerator told may_leave moment left_since faults cuts clients size number c mid count status)
-        → GeneratorIsHonest told may_leave moment left_since faults cuts clients size number c mid count status ended
+    generator_honest : (mid : Option (List ℕ)) (count : ℕ) (status : Status) (ended : EndedGenerator g clients size number c mid count status)
+        → GeneratorIsHonest g clients size number c mid count status ended
     generator_honest mid count Done ended = found_honest ended.1.found ended.1.run
     generator_honest mid count WriteFault ended = found_honest ended.1.found ended.1.run
     generator_honest mid count StoreFault ended = fault_honest ended.0
@@ -584,8 +570,8 @@ module _ {V : Type 0} (told : V → Option Disk) (may_leave : V → Disk → Typ
     generator_honest mid count ReadFault ended = tt
 
   -- ---- each task of the words
-  honest : (c : Course V) (base : List Record) → IsOwn told may_leave base c.store → (words : List (List ℕ)) (mid : Option (List ℕ)) (count : ℕ) (task : Option Task) → meaning words ≡ task → PokesNowhere task c
-      → (status : Status) (ended : Ended told may_leave moment left_since faults cuts task c mid count status) → AreHonest told may_leave moment left_since faults cuts c mid count task status ended
+  honest : (c : Course V) (base : List Record) → IsOwn g base c.store → (words : List (List ℕ)) (mid : Option (List ℕ)) (count : ℕ) (task : Option Task) → meaning words ≡ task → PokesNowhere task c
+      → (status : Status) (ended : Ended g task c mid count status) → AreHonest g c mid count task status ended
   honest c base own words mid count None is nowhere status ended = tt
   honest c base own words mid count (Some Dump) is nowhere status ended = tt
   honest c base own words mid count (Some (Run precheck limit)) is nowhere status ended = script_honest limit precheck c mid count base own nowhere status ended
@@ -594,5 +580,5 @@ module _ {V : Type 0} (told : V → Option Disk) (may_leave : V → Disk → Typ
       generator_honest clients size number
       (record { some_clients = range.0.0; few_clients = range.0.1; some_transactions = range.1.0; few_transactions = range.1.1 }) c base own mid count status ended
 
-  pub runs_are_honest : RunsAreHonest told may_leave moment left_since faults cuts
+  pub runs_are_honest : RunsAreHonest g
   runs_are_honest words c status base own nowhere e = honest c base own words e.mid e.count (meaning words) refl nowhere status e.ended

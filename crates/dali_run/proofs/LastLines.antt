@@ -2,17 +2,17 @@
 use Rattle.std.proofs.Common.{ℕ, Bool, List, Option, Some, None}
 use Rattle.dali_arguments.specs.declared.task.Task.{Task}
 use Rattle.dali_arguments.specs.declared.task.Task.TheVariants.{Run, Generate, Dump}
-use Rattle.dali_store.specs.Store.{Files}
+use Rattle.dali_store.specs.declared.store.Store.{Ghosts}
 use Rattle.dali_run.specs.declared.status.Status.{Status}
 use Rattle.dali_run.specs.declared.status.Status.TheVariants.{Done, BadWords, BadScript, TooLong, ReadFault, WriteFault, StoreFault, BadStore, Unformatted, Formatted, OutOfMemory, LogFull}
 use Rattle.dali_run.specs.Ends.{Course, Ended, EndedDump, EndedGenerator, EndedNone, EndedScript}
 
-module _ {V : Type 0} (told : V → Option Files) (may_leave : V → Files → Type 0) (moment : V → ℕ) (left_since : V → ℕ → Files → Type 0) (faults : V → ℕ) (cuts : V → ℕ → Option Files)
+module _ {V : Type 0} (g : Ghosts V)
     (c : Course V) (taken' : Option (List ℕ)) (write_faults' : ℕ) (mid : Option (List ℕ)) (count : ℕ) where
   abbrev later : Course V
   later = record c { taken' = taken'; write_faults' = write_faults' }
 
-  of_script : (precheck : Bool) (limit : ℕ) (status : Status) → EndedScript told may_leave moment left_since faults limit cuts precheck c mid count status → EndedScript told may_leave moment left_since faults limit cuts precheck later mid count status
+  of_script : (precheck : Bool) (limit : ℕ) (status : Status) → EndedScript g limit precheck c mid count status → EndedScript g limit precheck later mid count status
   of_script precheck limit Done e = e
   of_script precheck limit BadWords e = e
   of_script precheck limit (BadScript line kind) e = e
@@ -26,7 +26,7 @@ module _ {V : Type 0} (told : V → Option Files) (may_leave : V → Files → T
   of_script precheck limit OutOfMemory e = e
   of_script precheck limit (LogFull end most) e = e
 
-  of_generator : (clients size number : ℕ) (status : Status) → EndedGenerator told may_leave moment left_since faults cuts clients size number c mid count status → EndedGenerator told may_leave moment left_since faults cuts clients size number later mid count status
+  of_generator : (clients size number : ℕ) (status : Status) → EndedGenerator g clients size number c mid count status → EndedGenerator g clients size number later mid count status
   of_generator clients size number Done e = e
   of_generator clients size number BadWords e = e
   of_generator clients size number (BadScript line kind) e = e
@@ -40,7 +40,7 @@ module _ {V : Type 0} (told : V → Option Files) (may_leave : V → Files → T
   of_generator clients size number OutOfMemory e = e
   of_generator clients size number (LogFull end most) e = e
 
-  of_dump : (status : Status) → EndedDump told may_leave moment left_since faults cuts c mid count status → EndedDump told may_leave moment left_since faults cuts later mid count status
+  of_dump : (status : Status) → EndedDump g c mid count status → EndedDump g later mid count status
   of_dump Done e = e
   of_dump BadWords e = e
   of_dump (BadScript line kind) e = e
@@ -54,7 +54,7 @@ module _ {V : Type 0} (told : V → Option Files) (may_leave : V → Files → T
   of_dump OutOfMemory e = e
   of_dump (LogFull end most) e = e
 
-  of_none : (status : Status) → EndedNone told may_leave moment left_since faults cuts c mid status → EndedNone told may_leave moment left_since faults cuts later mid status
+  of_none : (status : Status) → EndedNone g c mid status → EndedNone g later mid status
   of_none Done e = e
   of_none BadWords e = e
   of_none (BadScript line kind) e = e
@@ -68,7 +68,7 @@ module _ {V : Type 0} (told : V → Option Files) (may_leave : V → Files → T
   of_none OutOfMemory e = e
   of_none (LogFull end most) e = e
 
-  pub ended_still : (task : Option Task) (status : Status) → Ended told may_leave moment left_since faults cuts task c mid count status → Ended told may_leave moment left_since faults cuts task later mid count status
+  pub ended_still : (task : Option Task) (status : Status) → Ended g task c mid count status → Ended g task later mid count status
   ended_still None status e = of_none status e
   ended_still (Some (Run precheck limit)) status e = of_script precheck limit status e
   ended_still (Some (Generate clients size number)) status e = of_generator clients size number status e

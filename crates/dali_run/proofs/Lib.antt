@@ -7,6 +7,7 @@ mod RoundCalls
 pub mod Fit
 mod RoundTexts
 mod Alone
+mod Lasts
 mod Lasting
 mod StoreCalls
 mod OnlyRead

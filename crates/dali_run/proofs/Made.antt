@@ -7,7 +7,7 @@ use Rattle.dali_record.specs.Legal.{sizes_of}
 use Rattle.dali_region.specs.declared.Hold.{Hold}
 use Rattle.dali_region.specs.State.{RegionState, IsLive, loaded}
 use Rattle.dali_history.specs.Recovered.{recovered}
-use Rattle.dali_store.specs.Store.{Files as Disk}
+use Rattle.dali_store.specs.declared.store.Store.{Ghosts}
 use Rattle.dali_system.specs.State.{SystemState, CoreState, TxnRow, row_of, state_in}
 use Rattle.dali_system.specs.Wholes.{IsWhole}
 use Rattle.dali_crash.specs.Traces.{Start, start_point}
@@ -38,17 +38,17 @@ not_live g e live = by_hold g.hold e live
     by_hold None e live = absurd live
     by_hold (Some h) e live = absurd (cc)
 
-module _ {V : Type 0} (told : V → Option Disk) (may_leave : V → Disk → Type 0) (faults : V → ℕ) where
-  pub made_begins : (s : Start) (B : List (List Record)) (gs : List RegionState) (y : SystemState) (v : Vaulted V) → IsCoreAt told may_leave faults s B (start_point s) gs y v → IsWholeCore told gs y v → v.stopped ≡ false
-      → BeginsAt told may_leave faults s B (start_point s) gs y v
+module _ {V : Type 0} (g : Ghosts V) where
+  pub made_begins : (s : Start) (B : List (List Record)) (gs : List RegionState) (y : SystemState) (v : Vaulted V) → IsCoreAt g.told g.may_leave g.faults s B (start_point s) gs y v → IsWholeCore g.told gs y v → v.stopped ≡ false
+      → BeginsAt g.told g.may_leave g.faults s B (start_point s) gs y v
   made_begins s B gs y v at whole runs = record {
-    stands = record { at = at; whole = whole_there; dead = λ r g e. dead_hold g.hold (none_at r g (at.regions ∙ refl) e) };
+    stands = record { at = at; whole = whole_there; dead = λ r x e. dead_hold x.hold (none_at r x (at.regions ∙ refl) e) };
     files = whole.files;
     keeps = λ e. absurd (cc);
     between = record {
       rests = record {
         stopped = λ e. let no_way : true ≡ false = sym e ∙ (at.vault.vault.stopped ∙ runs) in absurd (cc);
-        holds = λ r g e. not_live g (no_hold (recovered (sizes_of s.log) s.log) r g e);
+        holds = λ r x e. not_live x (no_hold (recovered (sizes_of s.log) s.log) r x e);
         flag = refl;
         free = λ t. ap (λ (o : Option TxnRow). is_claimed_in (state_in o)) (no_row t);
       };
@@ -56,8 +56,8 @@ module _ {V : Type 0} (told : V → Option Disk) (may_leave : V → Disk → Typ
     };
   }
     where
-      none_at : (r : ℕ) (g : RegionState) → map loaded (recovered (sizes_of s.log) s.log) ≡ gs → slice_get gs r ≡ Some g → g.hold ≡ None
-      none_at r g same e = no_hold (recovered (sizes_of s.log) s.log) r g (subst (λ l. slice_get l r ≡ Some g) (sym same) e)
+      none_at : (r : ℕ) (x : RegionState) → map loaded (recovered (sizes_of s.log) s.log) ≡ gs → slice_get gs r ≡ Some x → x.hold ≡ None
+      none_at r x same e = no_hold (recovered (sizes_of s.log) s.log) r x (subst (λ l. slice_get l r ≡ Some x) (sym same) e)
 
       no_row : (t : ℕ) → row_of (start_point s).core.system t ≡ None
       no_row t = get-empty nat_cmp t
@@ -68,17 +68,17 @@ module _ {V : Type 0} (told : V → Option Disk) (may_leave : V → Disk → Typ
           (ap (λ l. record { regions = l; system = y; vault = (start_point s).core.vault }) (sym at.regions) ∙ ap (λ (m : SystemState). record { regions = (start_point s).core.regions; system = m; vault = (start_point s).core.vault }) (sym at.system))
           (whole.parts (start_point s).core.vault)
 
-  pub format_begins : FormatBegins told may_leave faults
+  pub format_begins : FormatBegins g
   format_begins s limit gs y v new whole begins words heads synced = (
     made_begins _ _ gs y.state v (begins words heads synced) whole (ap (λ (w : Vaulted V). w.stopped) new.vault),
     inl (ap (λ (w : Vaulted V). w.current) new.vault),
   )
 
-  pub restart_begins : RestartBegins told may_leave faults
+  pub restart_begins : RestartBegins g
   restart_begins limit fs F gs y v fresh whole begins spells finds words heads synced =
       let from = begins F spells finds in
       record {
-        start = start_at told may_leave faults from.log from.rules limit v words heads synced;
+        start = start_at g.told g.may_leave g.faults from.log from.rules limit v words heads synced;
         log = from.goes_on;
         history = from.history;
         limit_is = refl;

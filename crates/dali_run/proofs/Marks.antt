@@ -1,5 +1,5 @@
 -- A clean-up leaves each region's stray writes as they are, and the engine running.
-use Rattle.std.proofs.Common.{◌≡◌, ℕ, zero, suc, true, false, List, [], ◌∷◌, Option, Some, None, map, refl, sym, ◌∙◌, ap, subst, inl, inr, ⊎_elim}
+use Rattle.std.proofs.Common.{◌≡◌, ℕ, zero, suc, true, false, List, [], ◌∷◌, Some, None, map, refl, sym, ◌∙◌, ap, subst, inl, inr, ⊎_elim}
 use Rattle.std.specs.Prelude.{◌⊎◌, slice_get, slice_set}
 use Rattle.std.specs.List.{list_all}
 use Rattle.dali_clean.specs.Steps.{is_own_change, is_own_step}
@@ -10,8 +10,8 @@ use Rattle.dali_crash.specs.Traces.{Start}
 use Rattle.dali_memstore.specs.declared.fuse.Fuse.{Fuse}
 use Rattle.dali_record.specs.declared.records.Record.{Record}
 use Rattle.dali_region.specs.State.{RegionState, loaded, taken_back, touched}
-use Rattle.dali_store.specs.Store.{Files as Disk}
-use Rattle.dali_system.specs.Courses.{Step, Begins, Operates, TakesBack, Frees, Answers, Commits, Ends, AuditBegins, AuditEnds, Locks, Refuses, OnRegion, Passes, Dies, Claims, GivesBack, Recovers, Stops, Checkpoints, Takes, Flushes, Faults, ReadFails, Moment, IsStepAt}
+use Rattle.dali_store.specs.declared.store.Store.{Ghosts}
+use Rattle.dali_system.specs.Courses.{Step, TakesBack, Ends, OnRegion, Claims, GivesBack, Recovers, Moment, IsStepAt}
 use Rattle.dali_system.specs.Regions.{RegionStep, Poke, Clean, region_after}
 use Rattle.dali_system.specs.State.{CoreState, SystemState}
 use Rattle.dali_whole.specs.declared.whole.Core.{Core}
@@ -70,23 +70,7 @@ own_step t m n (Recovers r) own s =
     keep_set m.core.regions n.core.regions r s.0.0 (taken_back s.0.0) (ap (λ (c : CoreState). c.regions) s.0.3.1) s.0.1 (refl, refl)
 own_step t m n (OnRegion r x) own s =
     keep_set m.core.regions n.core.regions r s.0.0 (region_after x s.0.0) (ap (λ (c : CoreState). c.regions) s.0.3.1) s.0.1 (own_change t x s.0.0 own)
-own_step t m n Begins own s = absurd (cc own)
-own_step t m n (Operates u b) own s = absurd (cc own)
-own_step t m n (Frees p b) own s = absurd (cc own)
-own_step t m n (Answers u k a) own s = absurd (cc own)
-own_step t m n (Commits u) own s = absurd (cc own)
-own_step t m n AuditBegins own s = absurd (cc own)
-own_step t m n (AuditEnds b found) own s = absurd (cc own)
-own_step t m n (Locks u k mode) own s = absurd (cc own)
-own_step t m n (Refuses u k mode o) own s = absurd (cc own)
-own_step t m n (Passes b r) own s = absurd (cc own)
-own_step t m n (Dies u o) own s = absurd (cc own)
-own_step t m n Stops own s = absurd (cc own)
-own_step t m n (Checkpoints b) own s = absurd (cc own)
-own_step t m n Takes own s = absurd (cc own)
-own_step t m n Flushes own s = absurd (cc own)
-own_step t m n (Faults k) own s = absurd (cc own)
-own_step t m n (ReadFails k) own s = absurd (cc own)
+own_step t m n _ own s = absurd (cc own)
 
 own_step_runs : (t : ℕ) (m n : Moment) (x : Step) → is_own_step t x ≡ true → IsStepAt m x n → n.core.system.stop ≡ m.core.system.stop
 own_step_runs t m n (TakesBack u b) own s = ap (λ (c : CoreState). c.system.stop) s.0.2.1
@@ -119,8 +103,8 @@ pub record Stays {V : Type 0} (c d : Core (Fuse V)) : Type 0 where
 stays_then : {V : Type 0} (c d e : Core (Fuse V)) → Stays c d → Stays d e → Stays c e
 stays_then c d e one two = record { marks = keep_then c.regions.items d.regions.items e.regions.items one.marks two.marks; stop = two.stop ∙ one.stop }
 
-module _ {V : Type 0} (told : V → Option Disk) (may_leave : V → Disk → Type 0) (faults : V → ℕ) where
-  stays_one : (s : Start) (B : List (List Record)) (p : Point) (t : ℕ) (c d : Core (Fuse V)) → CleansUp told may_leave faults t c d → At told may_leave faults s B p c.regions.items c.system.state c.vault
+module _ {V : Type 0} (g : Ghosts V) where
+  stays_one : (s : Start) (B : List (List Record)) (p : Point) (t : ℕ) (c d : Core (Fuse V)) → CleansUp g t c d → At g s B p c.regions.items c.system.state c.vault
       → Stays c d
   stays_one s B p t c d (inl one) begins =
       let at = one.ends s B p begins.stands.at begins.stands.whole in
@@ -138,17 +122,17 @@ module _ {V : Type 0} (told : V → Option Disk) (may_leave : V → Disk → Typ
     stop = ap (λ (y : Served). y.state.stop) none.1.system;
   }
 
-  stays_all : (ts : List ℕ) (s : Start) (B : List (List Record)) (p : Point) (c d : Core (Fuse V)) → CleansAll told may_leave faults ts c d
-      → At told may_leave faults s B p c.regions.items c.system.state c.vault → AllDead c.system.state → c.vault.stopped ≡ false → Stays c d
+  stays_all : (ts : List ℕ) (s : Start) (B : List (List Record)) (p : Point) (c d : Core (Fuse V)) → CleansAll g ts c d
+      → At g s B p c.regions.items c.system.state c.vault → AllDead c.system.state → c.vault.stopped ≡ false → Stays c d
   stays_all [] s B p c d same begins all runs = record {
     marks = keep_same c.regions.items d.regions.items (ap (λ (x : Core (Fuse V)). x.regions.items) same);
     stop = ap (λ (x : Core (Fuse V)). x.system.state.stop) same;
   }
   stays_all (t ∷ ts) s B p c d cleans begins all runs =
-      let one = moved_one told may_leave faults s B p t c cleans.0 cleans.1 begins all runs in
+      let one = moved_one g s B p t c cleans.0 cleans.1 begins all runs in
       stays_then c cleans.0 d (stays_one s B p t c cleans.0 cleans.1 begins) (stays_all ts s B one.0.to cleans.0 d cleans.2 one.0.begins one.0.dead one.1)
 
-  pub cleaned_stays : (c d : Core (Fuse V)) → HasCleaned told may_leave faults c d → c.system.state.stop ≡ None → IsStanding told may_leave faults c → Stays c d
+  pub cleaned_stays : (c d : Core (Fuse V)) → HasCleaned g c d → c.system.state.stop ≡ None → IsStanding g c → Stays c d
   cleaned_stays c d cleaned up a =
-      let idle = idle_runs told may_leave faults a.start a.batches a.point c a.begins up in
+      let idle = idle_runs g a.start a.batches a.point c a.begins up in
       stays_all (dead_in c.system.state) a.start a.batches a.point c d cleaned.each a.begins idle.0 idle.1

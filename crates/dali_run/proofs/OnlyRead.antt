@@ -12,6 +12,7 @@ use Rattle.dali_round.specs.Leads.{BeginsAt}
 use Rattle.dali_steps.proofs.Steps.{read_faults, read_stays}
 use Rattle.dali_store.specs.Faults.{Rose}
 use Rattle.dali_store.specs.Store.{Files as Disk}
+use Rattle.dali_store.specs.declared.store.Store.{Ghosts}
 use Rattle.dali_system.specs.Courses.{ReadFails}
 use Rattle.dali_system.specs.Flushes.{read_failed, with_vault}
 use Rattle.dali_system.specs.Run.{RunsOn}
@@ -31,19 +32,19 @@ between_there c d n same between =
       idle = between.idle;
     })
 
-module _ {V : Type 0} (told : V → Option Disk) (may_leave : V → Disk → Type 0) (moment : V → ℕ) (left_since : V → ℕ → Disk → Type 0) (faults : V → ℕ) where
+module _ {V : Type 0} (g : Ghosts V) where
   abbrev pub Reads : Fuse V → Fuse V → Type 0
-  Reads old f = OnlyReads (told_in told) (moment_in moment) (since_in left_since) (leaves_in may_leave) old f
+  Reads old f = OnlyReads (told_in g) (moment_in g) (since_in g) (leaves_in g) old f
 
   abbrev pub Begins : Start → List (List Record) → Point → List RegionState → SystemState → Vaulted (Fuse V) → Type 0
-  Begins s B p gs y v = BeginsAt (told_in told) (leaves_in may_leave) (faults_in faults) s B p gs y v
+  Begins s B p gs y v = BeginsAt (told_in g) (leaves_in g) (faults_in g) s B p gs y v
 
   -- ---- no read failed
   pub read_begins : (f : Fuse V) (s : Start) (B : List (List Record)) (p : Point) (gs : List RegionState) (y : SystemState) (v : Vaulted (Fuse V)) → Reads v.store f
-      → faults_in faults f ≡ faults_in faults v.store → Begins s B p gs y v → Begins s B p gs y (with_store v f)
+      → faults_in g f ≡ faults_in g v.store → Begins s B p gs y v → Begins s B p gs y (with_store v f)
   read_begins f s B p gs y v reads kept begins =
       let at = begins.stands.at in
-      let stays = read_stays (told_in told) (leaves_in may_leave) (faults_in faults) s B p v (with_store v f) at.vault (record { vault = refl; same = reads.same; crash = reads.crash }, kept) in
+      let stays = read_stays (told_in g) (leaves_in g) (faults_in g) s B p v (with_store v f) at.vault (record { vault = refl; same = reads.same; crash = reads.crash }, kept) in
       record {
         stands = record {
           at = record { regions = at.regions; system = at.system; vault = stays.0; none_in_hand = at.none_in_hand };
@@ -58,15 +59,15 @@ module _ {V : Type 0} (told : V → Option Disk) (may_leave : V → Disk → Typ
   -- ---- one did
   pub record Unread (s : Start) (B : List (List Record)) (p : Point) (gs : List RegionState) (y : SystemState) (v : Vaulted (Fuse V)) : Type 0 where
     pub to : Point
-    pub step : IsPointStep p (Does (ReadFails (faults_in faults v.store))) to
+    pub step : IsPointStep p (Does (ReadFails (faults_in g v.store))) to
     pub begins : Begins s B to gs y v
 
   pub unread : (f : Fuse V) (s : Start) (B : List (List Record)) (p : Point) (gs : List RegionState) (y : SystemState) (v : Vaulted (Fuse V)) → Reads v.store f
-      → Rose (faults_in faults v.store) (faults_in faults f) → Begins s B p gs y v → Unread s B p gs y (with_store v f)
+      → Rose (faults_in g v.store) (faults_in g f) → Begins s B p gs y v → Unread s B p gs y (with_store v f)
   unread f s B p gs y v reads rose begins =
       let at = begins.stands.at in
-      let n = faults_in faults f in
-      let failed = read_faults (told_in told) (leaves_in may_leave) (faults_in faults) s B p v (with_store v f) at.vault (record { vault = refl; same = reads.same; crash = reads.crash }, rose) in
+      let n = faults_in g f in
+      let failed = read_faults (told_in g) (leaves_in g) (faults_in g) s B p v (with_store v f) at.vault (record { vault = refl; same = reads.same; crash = reads.crash }, rose) in
       let q = failed.goes.to in
       let step = failed.goes.step in
       let same : q.core ≡ with_vault p.core (read_failed p.core.vault n) = step.1.0.1.1 in

@@ -8,7 +8,7 @@ use Rattle.std.proofs.lemmas.Grind.{flat_map-append}
 use Rattle.dali_record.specs.declared.records.Call.{Call}
 use Rattle.dali_record.specs.declared.records.Record.TheVariants.{AuditBegin, AuditClean, AuditFail}
 use Rattle.dali_transcripts.specs.Words.{Act, Begins as BeginAct, Calls, Arms, Commits as CommitAct, Aborts as AbortAct, Pokes as PokeAct, Audits as AuditAct, Checkpoints as CheckpointAct, Why, StoppedBy, Full, Damaged, StoreFailed, UnderWay, Said}
-use Rattle.dali_transcripts.specs.World.{Deed, Logs, Strays, DiesOn, Claims, GivesBack, GetsLock, Yields, FindsDead, StartsCheckpoint, MovesAnchor, EndsCheckpoint, Meets, World}
+use Rattle.dali_transcripts.specs.World.{Deed, Logs, Strays, DiesOn, Yields, StartsCheckpoint, EndsCheckpoint, Meets, World}
 use Rattle.dali_transcripts.specs.Moves.{Receipt, Place, Outside, Within, Again, LeftOut, Gone, Spot, Ending, TakenBack, LeftBehind, Move, Begins, BeginsAgain, IsRefusedBegin, Skips, Rests, Answers, IsRefusedCall, Dies, IsArmed, GivesWay, GivesUp, Commits, CommitFails, IsRefusedCommit, Aborts, IsRefusedAbort, Ends, StaysOpen, Pokes, PokesNothing, Audits, IsRefusedAudit, Checkpoints, FailsCheckpoint, IsRefusedCheckpoint, audit_own, failure_own, end_line, end_own, spanned, refused_own, behind_close, from, said, own, to, start}
 use Rattle.dali_transcripts.specs.Causes.{AreAside, AreAsking, AreTried, AreWork, AreBehind, IsAside, IsAsking, IsTried, IsWork, IsBehind, IsCutAudit, IsCutBy, HasCause, MayBegin}
 use Rattle.dali_transcripts.specs.Transcripts.{IsPath, IsTranscript, own_by, said_by}
@@ -34,15 +34,7 @@ quiet_one : (r : ℕ) (P : Receipt → Type 0) → ((n region word mask : ℕ) �
 quiet_one r P never (n, Logs x) p = refl
 quiet_one r P never (n, Strays region word mask) p = absurd (never n region word mask p)
 quiet_one r P never (n, DiesOn t q) p = refl
-quiet_one r P never (n, Claims u) p = refl
-quiet_one r P never (n, GivesBack u o) p = refl
-quiet_one r P never (n, Yields f) p = refl
-quiet_one r P never (n, GetsLock t k m) p = refl
-quiet_one r P never (n, FindsDead f) p = refl
-quiet_one r P never (n, StartsCheckpoint) p = refl
-quiet_one r P never (n, MovesAnchor k) p = refl
-quiet_one r P never (n, EndsCheckpoint) p = refl
-quiet_one r P never (n, Meets why) p = refl
+quiet_one r P never _ p = refl
 
 pub quiet_all : (r : ℕ) (P : Receipt → Type 0) → ((n region word mask : ℕ) → P (n, Strays region word mask) → ⊥) → (xs : List Receipt) → AllByRecursion P xs → own_masks r xs ≡ []
 quiet_all r P never [] all = refl

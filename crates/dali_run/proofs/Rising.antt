@@ -11,11 +11,12 @@ use Rattle.dali_round.specs.Leads.{lines_in}
 use Rattle.dali_script.specs.declared.commands.Command.{Command}
 use Rattle.dali_script.specs.declared.commands.Command.TheVariants.{Size}
 use Rattle.dali_store.specs.Store.{Files as Disk}
+use Rattle.dali_store.specs.declared.store.Store.{Ghosts}
 use Rattle.dali_system.specs.declared.causes.Cause.{Cause}
 use Rattle.dali_system.specs.declared.causes.Cause.TheVariants.{Damage, Store}
 use Rattle.dali_system.specs.State.{CoreState, SystemState}
 use Rattle.dali_transcripts.specs.Transcripts.{Told as Blocks}
-use Rattle.dali_transcripts.specs.Words.{Said, Begun, Answered, CommitOk, AbortOk, Aborted, LeftOpen, Died, Busy, PokeOk, PokeOutOfRange, AuditSaid, CheckpointSaid, CheckpointFailed, Refused, StoppedBy, Full, Damaged, StoreFailed, UnderWay}
+use Rattle.dali_transcripts.specs.Words.{Said, Refused, StoppedBy}
 use Rattle.dali_transcripts.specs.World.{has_failed}
 use Rattle.dali_vault.specs.Vaulted.{Vaulted}
 use Rattle.dali_whole.specs.declared.whole.Core.{Core}
@@ -38,24 +39,8 @@ IsNoFault (Some StoreFault) = ⊥
 IsNoFault o = Unit {0}
 
 in_line : (said : Said) → IsNoFault (full_in said)
-in_line (Begun txn) = tt
-in_line (Answered call answer) = tt
-in_line CommitOk = tt
-in_line AbortOk = tt
-in_line Aborted = tt
-in_line LeftOpen = tt
-in_line Died = tt
-in_line (Busy holder) = tt
-in_line PokeOk = tt
-in_line PokeOutOfRange = tt
-in_line (AuditSaid regions) = tt
-in_line (CheckpointSaid number) = tt
-in_line (CheckpointFailed regions) = tt
 in_line (Refused act (StoppedBy cause)) = tt
-in_line (Refused act (Full end most)) = tt
-in_line (Refused act (Damaged region codeword found)) = tt
-in_line (Refused act StoreFailed) = tt
-in_line (Refused act UnderWay) = tt
+in_line _ = tt
 
 in_either : (first later : Option Halt) → IsNoFault first → IsNoFault later → IsNoFault (or_else first later)
 in_either (Some halt) later f l = f
@@ -89,14 +74,14 @@ module _ {V : Type 0} where
   RunsIn (Up core) = core.vault.stopped ≡ false
   RunsIn (Down store) = Unit {0}
 
-module _ {V : Type 0} (told : V → Option Disk) (may_leave : V → Disk → Type 0) (moment : V → ℕ) (left_since : V → ℕ → Disk → Type 0) (faults : V → ℕ)
-    (reads_now : (s : V) → IfSome (told s) (λ fs. may_leave s fs)) (counts_now : (s : V) (t : ℕ) (c : Disk) → t ≤ moment s → may_leave s c → left_since s t c) where
-  made_runs : (limit clients size : ℕ) (start : V) (made : Core (Fuse V)) → IsMade told may_leave moment left_since faults limit clients size start made → made.vault.stopped ≡ false
+module _ {V : Type 0} (g : Ghosts V)
+    (reads_now : (s : V) → IfSome (g.told s) (λ fs. g.may_leave s fs)) (counts_now : (s : V) (t : ℕ) (c : Disk) → t ≤ g.moment s → g.may_leave s c → g.left_since s t c) where
+  made_runs : (limit clients size : ℕ) (start : V) (made : Core (Fuse V)) → IsMade g limit clients size start made → made.vault.stopped ≡ false
   made_runs limit clients size start made m =
       let new : m.steps.core.vault.stopped ≡ false = ap (λ (v : Vaulted (Fuse V)). v.stopped) m.steps.fresh.vault in subst RunsIn (sym m.steps.up) new
 
-  round_rises : (base : List Record) (blocks : List Blocks) (made played : Core (Fuse V)) → IsPointOf told may_leave faults base made → made.vault.stopped ≡ false
-      → IsRoundOf told may_leave moment left_since faults blocks made (Some StoreFault) played → OwnRose faults made.vault.store played.vault.store
+  round_rises : (base : List Record) (blocks : List Blocks) (made played : Core (Fuse V)) → IsPointOf g base made → made.vault.stopped ≡ false
+      → IsRoundOf g blocks made (Some StoreFault) played → OwnRose g made.vault.store played.vault.store
   round_rises base blocks made played a runs round =
       let ts = round.round.transcripts in
       let so = by_store (first_full ts) played.system.state.stop (fails_by_fuse made played) (in_all ts) round.is in
@@ -107,43 +92,42 @@ module _ {V : Type 0} (told : V → Option Disk) (may_leave : V → Disk → Typ
       let stopped : w.core.vault.stopped ≡ true = ap (λ (k : CoreState). k.vault.stopped) is.core_is ∙ led.stands.at.vault.run.run.run.runs.stop.store stop in
       let ran : w.old.vault.stopped ≡ false = ap (λ (k : CoreState). k.vault.stopped) is.old_is ∙ (a.begins.stands.at.vault.vault.stopped ∙ runs) in
       let failed : has_failed false w.happened ≡ true = ap (λ (b : Bool). has_failed b w.happened) (sym ran) ∙ (sym is.together.faults.stopped ∙ stopped) in
-      let was : w.old.vault.faults ≡ faults_in faults made.vault.store = ap (λ (k : CoreState). k.vault.faults) is.old_is ∙ a.begins.stands.at.vault.vault.counted in
-      let now : w.core.vault.faults ≡ faults_in faults played.vault.store = ap (λ (k : CoreState). k.vault.faults) is.core_is ∙ led.stands.at.vault.vault.counted in
-      own_rises told may_leave moment left_since faults false made.vault.store played.vault.store
-      (rises w.old.vault.faults w.core.vault.faults (faults_in faults made.vault.store) (faults_in faults played.vault.store) was now (is.together.faults.rose failed))
+      let was : w.old.vault.faults ≡ faults_in g made.vault.store = ap (λ (k : CoreState). k.vault.faults) is.old_is ∙ a.begins.stands.at.vault.vault.counted in
+      let now : w.core.vault.faults ≡ faults_in g played.vault.store = ap (λ (k : CoreState). k.vault.faults) is.core_is ∙ led.stands.at.vault.vault.counted in
+      own_rises g false made.vault.store played.vault.store
+      (rises w.old.vault.faults w.core.vault.faults (faults_in g made.vault.store) (faults_in g played.vault.store) was now (is.together.faults.rose failed))
       (ltb-false (failed_of made.vault.store) (failed_of played.vault.store) so.1)
 
   -- no fuse is set, and none fails a call
-  pub never_stops : (limit : ℕ) (old new : Program V) (text : List ℕ) (store : V) → IsDown old store → RestartStops told may_leave moment left_since faults limit old text new → ⊥
+  pub never_stops : (limit : ℕ) (old new : Program V) (text : List ℕ) (store : V) → IsDown old store → RestartStops g limit old text new → ⊥
   never_stops limit old new text store down stops =
       let counted : is_some (passes_of stops.store) ≡ is_some (passes_of (store_of old)) = stops.left.left.passes.counted in
       let none = none_failed stops.store (counted ∙ not_set (passes_of (store_of old)) (down_unset old store down)) in
       omega (arith, none, stops.by_fuse)
 
-  module _ (cuts : V → ℕ → Option Disk) where
-    module _ (clients size number : ℕ) (c : Course V) (base : List Record) (own : IsOwn told may_leave base c.store) where
-      abbrev making : Command
-      making = Size (index_regions clients size) (heap_regions clients size)
+  module _ (clients size number : ℕ) (c : Course V) (base : List Record) (own : IsOwn g base c.store) where
+    abbrev making : Command
+    making = Size (index_regions clients size) (heap_regions clients size)
 
-      stop_rises : (s : GeneratorStops told may_leave moment left_since faults cuts clients size number StoreFault c.store c.store')
-          → StopRises told may_leave moment left_since faults cuts clients size number c s
-      stop_rises (inl first) =
-          fault_rises told may_leave moment left_since faults false AnyFiles making base first.0 first.2.last (begins_down told may_leave faults base first.0 c.store first.1 own)
-          (λ is. down_unset first.0 c.store first.1) first.2.fails
-      stop_rises (inr (inl crash)) = ⊎_elim (λ more. inl more) (λ end. inr (omega (arith, end))) crash.1.fails.0
-      stop_rises (inr (inr restart)) =
-          own_rises told may_leave moment left_since faults false (store_of restart.0.crashed) restart.1.last restart.1.fails.0.rose restart.1.fails.0.none_by_fuse
+    stop_rises : (s : GeneratorStops g clients size number StoreFault c.store c.store')
+        → StopRises g clients size number c s
+    stop_rises (inl first) =
+        fault_rises g false AnyFiles making base first.0 first.2.last (begins_down g base first.0 c.store first.1 own)
+        (λ is. down_unset first.0 c.store first.1) first.2.fails
+    stop_rises (inr (inl crash)) = ⊎_elim (λ more. inl more) (λ end. inr (omega (arith, end))) crash.1.fails.0
+    stop_rises (inr (inr restart)) =
+        own_rises g false (store_of restart.0.crashed) restart.1.last restart.1.fails.0.rose restart.1.fails.0.none_by_fuse
 
-      fault_rises_so : (f : GeneratorFails told may_leave moment left_since faults cuts clients size number c.store c.store')
-          → GeneratorFaultRises told may_leave moment left_since faults cuts clients size number c f
-      fault_rises_so (inl s) = stop_rises s
-      fault_rises_so (inr (inl refused)) =
-          let m = refused.run.is_made in
-          let goes =
-          step_goes told may_leave moment left_since faults reads_now counts_now 67108864 cuts false AnyFiles making base m.first (Up refused.run.made) [] m.steps
-          (begins_down told may_leave faults base m.first c.store m.down own) (none_down told m.first c.store m.down) in
-          round_rises goes.log _ refused.run.made refused.run.played goes.point (made_runs 67108864 clients size c.store refused.run.made m) refused.run.round
-      fault_rises_so (inr (inr none)) = never_stops 67108864 none.run.crashed none.down none.text none.run.crash.store none.run.crash.down none.restart
+    fault_rises_so : (f : GeneratorFails g clients size number c.store c.store')
+        → GeneratorFaultRises g clients size number c f
+    fault_rises_so (inl s) = stop_rises s
+    fault_rises_so (inr (inl refused)) =
+        let m = refused.run.is_made in
+        let goes =
+        step_goes g reads_now counts_now 67108864 false AnyFiles making base m.first (Up refused.run.made) [] m.steps
+        (begins_down g base m.first c.store m.down own) (none_down g m.first c.store m.down) in
+        round_rises goes.log _ refused.run.made refused.run.played goes.point (made_runs 67108864 clients size c.store refused.run.made m) refused.run.round
+    fault_rises_so (inr (inr none)) = never_stops 67108864 none.run.crashed none.down none.text none.run.crash.store none.run.crash.down none.restart
 
-    pub generator_faults_rise : GeneratorFaultsRise told may_leave moment left_since faults cuts
-    generator_faults_rise c base clients size number own e = fault_rises_so clients size number c base own e.ended.0
+  pub generator_faults_rise : GeneratorFaultsRise g
+  generator_faults_rise c base clients size number own e = fault_rises_so clients size number c base own e.ended.0

@@ -1,5 +1,5 @@
 -- Rounds over a core.
-use Rattle.std.proofs.Common.{◌≡◌, ◌<◌, ◌≤◌, ℕ, Bool, true, List, [], ◌∷◌, Option, Result, Ok, Err, map, refl, sym, ◌∙◌, ap, subst, inl, inr, arith}
+use Rattle.std.proofs.Common.{◌≡◌, ◌<◌, ◌≤◌, ℕ, Bool, true, List, [], ◌∷◌, Result, Ok, Err, map, refl, sym, ◌∙◌, ap, subst, inl, inr, arith}
 use Rattle.std.specs.Prelude.{◌⊎◌, ◌||◌, flat_map, IfOk, IfErr, OnErr}
 use Rattle.std.specs.List.{list_any}
 use Rattle.dali_clients.specs.declared.command.Block.{Block}
@@ -13,7 +13,7 @@ use Rattle.dali_round.specs.declared.rounds.RoundEnd.TheVariants.{Done}
 use Rattle.dali_round.specs.Leads.{is_done, RoundGoes}
 use Rattle.dali_script.specs.declared.commands.Block.{Block as Script}
 use Rattle.dali_script.specs.declared.names.Name.{Name}
-use Rattle.dali_store.specs.Store.{Files}
+use Rattle.dali_store.specs.declared.store.Store.{Ghosts}
 use Rattle.dali_transcripts.specs.Words.{Act}
 use Rattle.dali_transcripts.specs.Transcripts.{Told}
 use Rattle.dali_whole.specs.declared.whole.Core.{Core}
@@ -61,39 +61,39 @@ less_so a b x y ax by lt = omega (arith, ax, by, lt)
 pub most_so : (a b x y : ℕ) → x ≡ a → y ≡ b → x ≤ y → a ≤ b
 most_so a b x y ax by le = omega (arith, ax, by, le)
 
-module _ {V : Type 0} (told : V → Option Files) (may_leave : V → Files → Type 0) (moment : V → ℕ) (left_since : V → ℕ → Files → Type 0) (faults : V → ℕ) (precheck : Bool) where
+module _ {V : Type 0} (g : Ghosts V) (precheck : Bool) where
   abbrev Goes : List Block → Core (Fuse V) → RoundEnd → List Transcribed → Core (Fuse V) → Type 0
   Goes bs c end ts d =
-      RoundGoes (told_in told) (leaves_in may_leave) (faults_in faults) precheck bs c.regions.items c.system.state c.vault end ts d.regions.items d.system.state d.vault
+      RoundGoes (told_in g) (leaves_in g) (faults_in g) precheck bs c.regions.items c.system.state c.vault end ts d.regions.items d.system.state d.vault
 
   pub plays_done : (bs : List Block) (c d : Core (Fuse V)) (end : RoundEnd) (ts : List Transcribed) → end ≡ Done → Goes bs c end ts d
-      → Plays told may_leave faults precheck true (map told_of bs) c ts d
+      → Plays g precheck true (map told_of bs) c ts d
   plays_done bs c d end ts is goes = subst (λ (e : RoundEnd). Goes bs c e ts d) is goes
 
-  abbrev pub was_played : (bs : List Block) (c d : Core (Fuse V)) (end : RoundEnd) (ts : List Transcribed) → Goes bs c end ts d → IsNoShorter (told_in told) c.vault d.vault → RightWithin told may_leave moment left_since faults c d
-      → Played told may_leave moment left_since faults precheck (map told_of bs) c d.vault.store
+  abbrev pub was_played : (bs : List Block) (c d : Core (Fuse V)) (end : RoundEnd) (ts : List Transcribed) → Goes bs c end ts d → IsNoShorter (told_in g) c.vault d.vault → RightWithin g c d
+      → Played g precheck (map told_of bs) c d.vault.store
   was_played bs c d end ts goes longer moments = record { whole = is_done end; transcripts = ts; core = d; plays = goes; longer = longer; moments = moments; store = refl }
 
   -- a round whose lines there is no memory for
-  pub played_whole : (blocks : List Told) (c d : Core (Fuse V)) (ts : List Transcribed) → Plays told may_leave faults precheck true blocks c ts d → IsNoShorter (told_in told) c.vault d.vault
-      → RightWithin told may_leave moment left_since faults c d → LostOver told may_leave moment left_since faults precheck blocks c d.vault.store
+  pub played_whole : (blocks : List Told) (c d : Core (Fuse V)) (ts : List Transcribed) → Plays g precheck true blocks c ts d → IsNoShorter (told_in g) c.vault d.vault
+      → RightWithin g c d → LostOver g precheck blocks c d.vault.store
   played_whole blocks c d ts plays longer moments = inr (record { whole = true; transcripts = ts; core = d; plays = plays; longer = longer; moments = moments; store = refl })
 
-  pub runs_round : (blocks : List Told) (c d : Core (Fuse V)) (ts : List Transcribed) (text : List ℕ) → Plays told may_leave faults precheck true blocks c ts d
-      → TellAll blocks ts → IsNoShorter (told_in told) c.vault d.vault → RightWithin told may_leave moment left_since faults c d → PlacesIn told d → text ≡ said_texts ts → RunsRound told may_leave moment left_since faults precheck blocks c text d
+  pub runs_round : (blocks : List Told) (c d : Core (Fuse V)) (ts : List Transcribed) (text : List ℕ) → Plays g precheck true blocks c ts d
+      → TellAll blocks ts → IsNoShorter (told_in g) c.vault d.vault → RightWithin g c d → PlacesIn g d → text ≡ said_texts ts → RunsRound g precheck blocks c text d
   runs_round blocks c d ts text plays tell longer moments places is = record { transcripts = ts; plays = plays; longer = longer; moments = moments; places = places; printed = is ∙ round_said blocks ts tell }
 
-  pub steps_round : (blocks : List Script) (q : Program V) (c d : Core (Fuse V)) (text : List ℕ) → q ≡ Up c → RunsRound told may_leave moment left_since faults precheck (map told_by blocks) c text d
-      → StepsRound told may_leave moment left_since faults precheck blocks q text (Up d)
-  steps_round blocks q c d text is runs = subst (λ (x : Program V). StepsRound told may_leave moment left_since faults precheck blocks x text (Up d)) (sym is) (d, runs, refl)
+  pub steps_round : (blocks : List Script) (q : Program V) (c d : Core (Fuse V)) (text : List ℕ) → q ≡ Up c → RunsRound g precheck (map told_by blocks) c text d
+      → StepsRound g precheck blocks q text (Up d)
+  steps_round blocks q c d text is runs = subst (λ (x : Program V). StepsRound g precheck blocks x text (Up d)) (sym is) (d, runs, refl)
 
-  pub steps_alone : (name : Name) (act : Act) (q : Program V) (c d : Core (Fuse V)) (text : List ℕ) → q ≡ Up c → ActsAlone told may_leave moment left_since faults precheck act c text d
-      → StepsAlone told may_leave moment left_since faults precheck name act q text (Up d)
-  steps_alone name act q c d text is acts = subst (λ (x : Program V). StepsAlone told may_leave moment left_since faults precheck name act x text (Up d)) (sym is) (d, acts, refl)
+  pub steps_alone : (name : Name) (act : Act) (q : Program V) (c d : Core (Fuse V)) (text : List ℕ) → q ≡ Up c → ActsAlone g precheck act c text d
+      → StepsAlone g precheck name act q text (Up d)
+  steps_alone name act q c d text is acts = subst (λ (x : Program V). StepsAlone g precheck name act x text (Up d)) (sym is) (d, acts, refl)
 
-  pub acts_alone : (act : Act) (c d : Core (Fuse V)) (ts : List Transcribed) (text : List ℕ) (failure : Bool) → Plays told may_leave faults precheck true (alone act) c ts d
-      → IsNoShorter (told_in told) c.vault d.vault → RightWithin told may_leave moment left_since faults c d → PlacesIn told d → text ≡ flat_map alone_texts ts → failure ≡ list_any says_failure ts → (failure ≡ true → failed_of c.vault.store < failed_of d.vault.store)
-      → ActsAlone told may_leave moment left_since faults precheck act c text d
+  pub acts_alone : (act : Act) (c d : Core (Fuse V)) (ts : List Transcribed) (text : List ℕ) (failure : Bool) → Plays g precheck true (alone act) c ts d
+      → IsNoShorter (told_in g) c.vault d.vault → RightWithin g c d → PlacesIn g d → text ≡ flat_map alone_texts ts → failure ≡ list_any says_failure ts → (failure ≡ true → failed_of c.vault.store < failed_of d.vault.store)
+      → ActsAlone g precheck act c text d
   acts_alone act c d ts text failure plays longer moments places is said by = record {
     transcripts = ts;
     plays = plays;
@@ -104,9 +104,9 @@ module _ {V : Type 0} (told : V → Option Files) (may_leave : V → Files → T
     by_fuse = λ says. by (said ∙ says);
   }
 
-  pub fails_alone : (act : Act) (c d : Core (Fuse V)) (ts : List Transcribed) (failure : Bool) → Plays told may_leave faults precheck true (alone act) c ts d → IsNoShorter (told_in told) c.vault d.vault
-      → RightWithin told may_leave moment left_since faults c d → failure ≡ list_any says_failure ts → failure ≡ true → failed_of d.vault.store ≤ failed_of c.vault.store
-      → FailsAlone told may_leave moment left_since faults precheck act c d.vault.store
+  pub fails_alone : (act : Act) (c d : Core (Fuse V)) (ts : List Transcribed) (failure : Bool) → Plays g precheck true (alone act) c ts d → IsNoShorter (told_in g) c.vault d.vault
+      → RightWithin g c d → failure ≡ list_any says_failure ts → failure ≡ true → failed_of d.vault.store ≤ failed_of c.vault.store
+      → FailsAlone g precheck act c d.vault.store
   fails_alone act c d ts failure plays longer moments said is few = record {
     transcripts = ts;
     core = d;

@@ -16,7 +16,7 @@ use Rattle.dali_script.specs.declared.commands.ClientCommand.TheVariants.{Update
 use Rattle.dali_served.specs.Free.{AllFit, fits_log}
 use Rattle.dali_served.specs.Served.{AreTold, acts_of}
 use Rattle.dali_served.specs.Generates.{calls_told}
-use Rattle.dali_transcripts.specs.Words.{AbortOk, Aborted, Act, Answered, AuditSaid, Begins, Begun, Busy, Calls, CheckpointFailed, CheckpointSaid, CommitOk, Commits, Damaged, Died, Full, LeftOpen, PokeOk, PokeOutOfRange, Refused, Said, StoppedBy, StoreFailed, UnderWay}
+use Rattle.dali_transcripts.specs.Words.{Act, Begins, Calls, Commits, Damaged, Full, Refused, Said, StoreFailed, UnderWay}
 use Rattle.dali_transcripts.specs.Transcripts.{Told, is_among}
 use Rattle.dali_generator.proofs.Keys.{all_transactions, none_beyond, none_before}
 use Rattle.dali_run.specs.declared.halt.Halt.{Halt}
@@ -30,24 +30,11 @@ both_none None b e = (refl, e)
 both_none (Some halt) b e = absurd cc
 
 line_fits : (said : Said) → full_in said ≡ None → fits_log said ≡ true
-line_fits (Begun txn) e = refl
-line_fits (Answered call answer) e = refl
-line_fits CommitOk e = refl
-line_fits AbortOk e = refl
-line_fits Aborted e = refl
-line_fits LeftOpen e = refl
-line_fits Died e = refl
-line_fits (Busy holder) e = refl
-line_fits PokeOk e = refl
-line_fits PokeOutOfRange e = refl
-line_fits (AuditSaid regions) e = refl
-line_fits (CheckpointSaid number) e = refl
-line_fits (CheckpointFailed regions) e = refl
-line_fits (Refused act (StoppedBy cause)) e = refl
 line_fits (Refused act (Full end limit)) e = absurd cc
 line_fits (Refused act (Damaged region codeword found)) e = refl
 line_fits (Refused act StoreFailed) e = refl
 line_fits (Refused act UnderWay) e = refl
+line_fits _ e = refl
 
 lines_fit : (lines : List Said) → full_among lines ≡ None → list_all fits_log lines ≡ true
 lines_fit [] e = refl

@@ -12,6 +12,7 @@ use Rattle.dali_history.specs.History.{IsHistory}
 use Rattle.dali_history.specs.Images.{HasRecords}
 use Rattle.dali_headline.proofs.NothingToFree.{recovered-base}
 use Rattle.dali_store.specs.Store.{Files as Disk}
+use Rattle.dali_store.specs.declared.store.Store.{Ghosts}
 use Rattle.dali_system.specs.declared.causes.Cause.{Cause}
 use Rattle.dali_system.specs.State.{SystemState, row_of, state_of, state_in, hold_in, hold_of}
 use Rattle.dali_system.specs.Run.{first_of, RunsOn}
@@ -50,14 +51,14 @@ right_at s B p history F t =
       honest = honest_before (sizes_of s.log) (formatted_image (sizes_of s.log)) (cut s.log).closed (cut s.log).now history.honest;
     }) (traced_course (start_point s) p t.first F t.steps t.trace)
 
-module _ {V : Type 0} (told : V → Option Disk) (may_leave : V → Disk → Type 0) (faults : V → ℕ) (reads_now : (s : V) → IfSome (told s) (λ fs. may_leave s fs)) where
-  right_here : (s : Start) (B : List (List Record)) (p : Point) (v : Vaulted V) → IsHistory s.log → (o : Option Disk) → is_some o ≡ true → IfSome o (λ fs. may_leave v.store fs)
-      → IfSome o (λ _. AllSpell (may_leave v.store) (TracedTo s B p)) → HasRightBase (bases_of s) p.core.system.sizes p.log
+module _ {V : Type 0} (g : Ghosts V) (reads_now : (s : V) → IfSome (g.told s) (λ fs. g.may_leave s fs)) where
+  right_here : (s : Start) (B : List (List Record)) (p : Point) (v : Vaulted V) → IsHistory s.log → (o : Option Disk) → is_some o ≡ true → IfSome o (λ fs. g.may_leave v.store fs)
+      → IfSome o (λ _. AllSpell (g.may_leave v.store) (TracedTo s B p)) → HasRightBase (bases_of s) p.core.system.sizes p.log
   right_here s B p v history None tells now all = absurd cc
   right_here s B p v history (Some fs) tells now all = let one = all fs now in right_at s B p history one.0 one.2
 
   -- an engine that runs has met no failed audit
-  pub none_failed : (s : Start) (B : List (List Record)) (p : Point) (gs : List RegionState) (y : SystemState) (v : Vaulted V) → BeginsAt told may_leave faults s B p gs y v → IsServing y
+  pub none_failed : (s : Start) (B : List (List Record)) (p : Point) (gs : List RegionState) (y : SystemState) (v : Vaulted V) → BeginsAt g.told g.may_leave g.faults s B p gs y v → IsServing y
       → failing (last_epoch p.log) ≡ []
   none_failed s B p gs y v begins serves =
       let run = begins.stands.at.vault.run.run in
@@ -66,29 +67,29 @@ module _ {V : Type 0} (told : V → Option Disk) (may_leave : V → Disk → Typ
       subst (λ (L : List Record). failing (last_epoch L) ≡ []) (sym run.log)
       (none_first p.core.system.stop _ up (λ r is. subst IsSome (sym ((cause.damage r).1 is)) refl))
 
-  pub shows_expected : ShowsExpected told may_leave faults
+  pub shows_expected : ShowsExpected g
   shows_expected s B p gs y v begins tells history serves clean =
       let at = begins.stands.at in
       let run = at.vault.run.run in
       let runs : RunsOn (bases_of s) p.log p.core = subst (λ (L : List Record). RunsOn (bases_of s) L p.core) (sym run.log) run.run.runs in
-      let right = right_here s B p v history (told v.store) tells (reads_now v.store) at.vault.files in
+      let right = right_here s B p v history (g.told v.store) tells (reads_now v.store) at.vault.files in
       let whole = none_failed s B p gs y v begins serves in
-      let idle : IsIdle p.core = (nobody, λ r g there. unheld r g g.hold refl there) in
+      let idle : IsIdle p.core = (nobody, λ r x there. unheld r x x.hold refl there) in
       let shown = shows_what_is_expected (bases_of s) p.log p.core runs clean right whole idle in
       record {
         expects = shown.0;
         defined = shown.1;
-        records = subst (λ (z : SystemState). HasRecords z.sizes (map (λ g. g.words) gs) shown.0) at.system
-            (subst (λ (l : List RegionState). HasRecords p.core.system.sizes (map (λ g. g.words) l) shown.0) at.regions shown.2);
+        records = subst (λ (z : SystemState). HasRecords z.sizes (map (λ x. x.words) gs) shown.0) at.system
+            (subst (λ (l : List RegionState). HasRecords p.core.system.sizes (map (λ x. x.words) l) shown.0) at.regions shown.2);
       }
     where
       nobody : (t : ℕ) → row_of p.core.system t ≡ None
       nobody t = ap (λ (z : SystemState). row_of z t) begins.stands.at.system ∙ serves.nobody t
 
-      unheld : (r : ℕ) (g : RegionState) (o : Option Hold) → g.hold ≡ o → slice_get p.core.regions r ≡ Some g → g.hold ≡ None
-      unheld r g None is there = is
-      unheld r g (Some h) is there =
+      unheld : (r : ℕ) (x : RegionState) (o : Option Hold) → x.hold ≡ o → slice_get p.core.regions r ≡ Some x → x.hold ≡ None
+      unheld r x None is there = is
+      unheld r x (Some h) is there =
           let held : hold_of p.core r ≡ Some h = ap hold_in there ∙ is in
-          let in_core : slice_get gs r ≡ Some g = subst (λ (l : List RegionState). slice_get l r ≡ Some g) begins.stands.at.regions there in
-          let dead : h.dead ≡ true = subst (λ (o : Option Hold). IfSome o (λ (k : Hold). k.dead ≡ true)) is (begins.stands.dead r g in_core) in
+          let in_core : slice_get gs r ≡ Some x = subst (λ (l : List RegionState). slice_get l r ≡ Some x) begins.stands.at.regions there in
+          let dead : h.dead ≡ true = subst (λ (o : Option Hold). IfSome o (λ (k : Hold). k.dead ≡ true)) is (begins.stands.dead r x in_core) in
           absurd (no_latched (state_of p.core.system h.txn) r (ap state_in (nobody h.txn)) (begins.stands.whole.dead r h held dead))

@@ -21,6 +21,7 @@ use Rattle.dali_script.specs.declared.commands.Command.TheVariants.{Size, Restar
 use Rattle.dali_store.specs.declared.store.FileName.{FileName}
 use Rattle.dali_store.specs.Faults.{Rose}
 use Rattle.dali_store.specs.Store.{Files}
+use Rattle.dali_store.specs.declared.store.Store.{Ghosts}
 use Rattle.dali_run.specs.declared.halt.Halt.{Halt}
 use Rattle.dali_run.specs.declared.halt.Halt.TheVariants.{OutOfMemory}
 use Rattle.dali_run.specs.declared.program.Program.{Program}
@@ -31,21 +32,21 @@ use Rattle.dali_run.specs.Program.{store_of, told_in, leaves_in, moment_in, sinc
 use Rattle.dali_run.specs.Steps.{Leaves, Rereads, StepsRestart, StepsSize}
 use Rattle.dali_run.specs.Told.{sizes_of}
 
-module _ {V : Type 0} (told : V → Option Files) (may_leave : V → Files → Type 0) (moment : V → ℕ) (left_since : V → ℕ → Files → Type 0) (faults : V → ℕ) (precheck : Bool) where
+module _ {V : Type 0} (g : Ghosts V) (precheck : Bool) where
   abbrev Reads : Fuse V → Fuse V → Type 0
-  Reads = OnlyRead told may_leave moment left_since faults precheck
+  Reads = OnlyRead g precheck
 
   abbrev Keeps : Fuse V → Fuse V → Type 0
-  Keeps = KeepsCount told may_leave moment left_since faults precheck
+  Keeps = KeepsCount g precheck
 
   pub record FormatRefused (s : Sizes) (e : RestartError) (old f : Fuse V) : Type 0 where
-    pub formatted : e ≡ errors.Formatted → IfSome (told_in told old) (λ fs. IsUnformatted fs.log → ⊥)
-    pub wanting : e ≡ errors.OutOfMemory → IfSome (told_in told old) (λ fs. IsUnformatted fs.log)
+    pub formatted : e ≡ errors.Formatted → IfSome (told_in g old) (λ fs. IsUnformatted fs.log → ⊥)
+    pub wanting : e ≡ errors.OutOfMemory → IfSome (told_in g old) (λ fs. IsUnformatted fs.log)
     pub reads : (e ≡ errors.Formatted) ⊎ (e ≡ errors.OutOfMemory) → Reads old f
     pub errors_are : (e ≡ errors.Fault) ⊎ (e ≡ errors.Formatted) ⊎ (e ≡ errors.OutOfMemory)
-    pub fault : e ≡ errors.Fault → Rose (faults_in faults old) (faults_in faults f)
+    pub fault : e ≡ errors.Fault → Rose (faults_in g old) (faults_in g f)
     pub kept : (e ≡ errors.Fault → ⊥) → Keeps old f
-    pub left : IsLeft (told_in told) (leaves_in may_leave) (moment_in moment) (since_in left_since) (faults_in faults) passes_of s old f
+    pub left : IsLeft (told_in g) (leaves_in g) (moment_in g) (since_in g) (faults_in g) passes_of s old f
 
   none_other : {P : Type 0} (e x : RestartError) → e ≡ x → (x ≡ errors.Fault → ⊥) → (x ≡ errors.Formatted → ⊥) → (x ≡ errors.OutOfMemory → ⊥)
       → (e ≡ errors.Fault) ⊎ (e ≡ errors.Formatted) ⊎ (e ≡ errors.OutOfMemory) → P
@@ -54,7 +55,7 @@ module _ {V : Type 0} (told : V → Option Files) (may_leave : V → Files → T
   none_other e x is a b c (inr (inr p)) = absurd (c cc)
 
   pub format_fails : (index heap : ℕ) (e : RestartError) (p : Program V) (f : Fuse V) → FormatRefused (sizes_of index heap) e (store_of p) f
-      → Fails told may_leave moment left_since faults precheck (halt_of_restart e) (Size index heap) p f
+      → Fails g precheck (halt_of_restart e) (Size index heap) p f
   format_fails index heap errors.Fault p f r = (r.fault refl, r.left)
   format_fails index heap errors.Formatted p f r = (tt, r.formatted refl, r.reads (inl refl), r.kept (λ e. absurd cc))
   format_fails index heap errors.OutOfMemory p f r = (r.left, r.kept (λ e. absurd cc), r.reads (inr refl), r.wanting refl)
@@ -64,16 +65,16 @@ module _ {V : Type 0} (told : V → Option Files) (may_leave : V → Files → T
   format_fails index heap errors.Unsteady p f r = none_other errors.Unsteady _ refl (λ e. absurd cc) (λ e. absurd cc) (λ e. absurd cc) r.errors_are
 
   pub record RestartRefused (e : RestartError) (old f : Fuse V) : Type 0 where
-    pub bad : (file : FileName) (at : ℕ) → e ≡ errors.BadStore file at → IfSome (told_in told old) (λ fs. IsBadAnywhere fs file at)
-    pub unformatted : e ≡ errors.Unformatted → IfSome (told_in told old) (λ fs. IsUnformatted fs.log)
+    pub bad : (file : FileName) (at : ℕ) → e ≡ errors.BadStore file at → IfSome (told_in g old) (λ fs. IsBadAnywhere fs file at)
+    pub unformatted : e ≡ errors.Unformatted → IfSome (told_in g old) (λ fs. IsUnformatted fs.log)
     pub formatted : e ≡ errors.Formatted → ⊥
     pub reads : (e ≡ errors.Fault → ⊥) → (e ≡ errors.OutOfMemory → ⊥) → Reads old f
-    pub fault : e ≡ errors.Fault → Rose (faults_in faults old) (faults_in faults f)
+    pub fault : e ≡ errors.Fault → Rose (faults_in g old) (faults_in g f)
     pub kept : (e ≡ errors.Fault → ⊥) → Keeps old f
-    pub left : Rereads told may_leave moment left_since faults old f
+    pub left : Rereads g old f
 
   refused : (e : RestartError) (p : Program V) (f : Fuse V) → RestartRefused e (store_of p) f → (e ≡ errors.Fault → failed_of f ≤ failed_of (store_of p))
-      → Fails told may_leave moment left_since faults precheck (halt_of_restart e) Restart p f
+      → Fails g precheck (halt_of_restart e) Restart p f
   refused errors.Fault p f r few = (record { rose = r.fault refl; none_by_fuse = few refl }, r.left)
   refused (errors.BadStore file at) p f r few = (tt, r.bad file at refl, r.reads (λ e. absurd cc) (λ e. absurd cc), r.kept (λ e. absurd cc))
   refused errors.Unformatted p f r few = (tt, r.unformatted refl, r.reads (λ e. absurd cc) (λ e. absurd cc), r.kept (λ e. absurd cc))
@@ -83,39 +84,39 @@ module _ {V : Type 0} (told : V → Option Files) (may_leave : V → Files → T
   refused errors.OutOfMemory p f r few = (r.left, λ le. r.kept (λ e. absurd cc))
 
   pub restart_fails : (e : RestartError) (halt : Halt) (failed : ℕ) (p : Program V) (f : Fuse V) → failed ≡ failed_of (store_of p) → HaltsWith e failed (failed_of f) halt
-      → RestartRefused e (store_of p) f → Fails told may_leave moment left_since faults precheck halt Restart p f
+      → RestartRefused e (store_of p) f → Fails g precheck halt Restart p f
   restart_fails e halt failed p f was (inl w) r =
-      subst (λ (h : Halt). Fails told may_leave moment left_since faults precheck h Restart p f) (sym w.0)
+      subst (λ (h : Halt). Fails g precheck h Restart p f) (sym w.0)
       (refused e p f r (λ is. subst (λ (n : ℕ). failed_of f ≤ n) was (w.1 is)))
   restart_fails e halt failed p f was (inr w) r =
       let less : failed_of (store_of p) < failed_of f = subst (λ (n : ℕ). n < failed_of f) was w.2 in
-      subst (λ (h : Halt). Fails told may_leave moment left_since faults precheck h Restart p f) (sym w.0) (r.left, λ le. absurd (omega (arith, less, le)))
+      subst (λ (h : Halt). Fails g precheck h Restart p f) (sym w.0) (r.left, λ le. absurd (omega (arith, less, le)))
 
   -- the store was that of the program
   pub restart_fails_over : (e : RestartError) (halt : Halt) (failed : ℕ) (p : Program V) (old f : Fuse V) → old ≡ store_of p → failed ≡ failed_of old → HaltsWith e failed (failed_of f) halt
-      → RestartRefused e old f → Fails told may_leave moment left_since faults precheck halt Restart p f
+      → RestartRefused e old f → Fails g precheck halt Restart p f
   restart_fails_over e halt failed p old f is was halts r =
       restart_fails e halt failed p f (was ∙ ap (λ (o : Fuse V). failed_of o) is) halts (subst (λ (o : Fuse V). RestartRefused e o f) is r)
 
   pub format_fails_over : (index heap : ℕ) (s : Sizes) (e : RestartError) (halt : Halt) (p : Program V) (old f : Fuse V) → s ≡ sizes_of index heap → old ≡ store_of p
-      → halt ≡ halt_of_restart e → FormatRefused s e old f → Fails told may_leave moment left_since faults precheck halt (Size index heap) p f
+      → halt ≡ halt_of_restart e → FormatRefused s e old f → Fails g precheck halt (Size index heap) p f
   format_fails_over index heap s e halt p old f size is halts r =
-      subst (λ (h : Halt). Fails told may_leave moment left_since faults precheck h (Size index heap) p f) (sym halts)
+      subst (λ (h : Halt). Fails g precheck h (Size index heap) p f) (sym halts)
       (format_fails index heap e p f (subst (λ (z : Sizes). FormatRefused z e (store_of p) f) size (subst (λ (o : Fuse V). FormatRefused s e o f) is r)))
 
 -- what a database that was made is, of whatever sizes
-module _ {V : Type 0} (told : V → Option Files) (may_leave : V → Files → Type 0) (moment : V → ℕ) (left_since : V → ℕ → Files → Type 0) (faults : V → ℕ) (limit : ℕ) where
+module _ {V : Type 0} (g : Ghosts V) (limit : ℕ) where
   pub record Formatted (s : Sizes) (old : Fuse V) (c : Core (Fuse V)) : Type 0 where
     pub core : IsNewCore s limit c.regions.items c.system c.vault
-    pub whole : IsWholeCore (told_in told) c.regions.items c.system.state c.vault
-    pub begins : RunBegins (told_in told) (leaves_in may_leave) (faults_in faults) s limit c.regions.items c.system.state c.vault
-    pub unformatted : IfSome (told_in told old) (λ fs. IsUnformatted fs.log)
-    pub makes : IfSome (told_in told old) (λ _. (x : Files) → leaves_in may_leave c.vault.store x → IsFormattedBy (leaves_in may_leave old) (first_body s) x)
-    pub left : IsLeft (told_in told) (leaves_in may_leave) (moment_in moment) (since_in left_since) (faults_in faults) passes_of s old c.vault.store
-    pub kept : faults_in faults c.vault.store ≡ faults_in faults old
+    pub whole : IsWholeCore (told_in g) c.regions.items c.system.state c.vault
+    pub begins : RunBegins (told_in g) (leaves_in g) (faults_in g) s limit c.regions.items c.system.state c.vault
+    pub unformatted : IfSome (told_in g old) (λ fs. IsUnformatted fs.log)
+    pub makes : IfSome (told_in g old) (λ _. (x : Files) → leaves_in g c.vault.store x → IsFormattedBy (leaves_in g old) (first_body s) x)
+    pub left : IsLeft (told_in g) (leaves_in g) (moment_in g) (since_in g) (faults_in g) passes_of s old c.vault.store
+    pub kept : faults_in g c.vault.store ≡ faults_in g old
 
   pub format_steps : (index heap : ℕ) (p : Program V) (c : Core (Fuse V)) (text : List ℕ) → text ≡ [] → Formatted (sizes_of index heap) (store_of p) c
-      → StepsSize told may_leave moment left_since faults limit index heap p text (Up c)
+      → StepsSize g limit index heap p text (Up c)
   format_steps index heap p c text none made = record {
     core = c;
     up = refl;
@@ -131,28 +132,37 @@ module _ {V : Type 0} (told : V → Option Files) (may_leave : V → Files → T
 
   -- what a restart handed out
   pub record Restored (old : Fuse V) (c : Core (Fuse V)) (report : Report) : Type 0 where
-    pub gives : IfSome (told_in told old) (λ fs. Gives fs (outcome c.regions.items report))
-    pub read : IfSome (told_in told old) (λ fs. IsReadAs fs (outcome c.regions.items report))
+    pub gives : IfSome (told_in g old) (λ fs. Gives fs (outcome c.regions.items report))
+    pub read : IfSome (told_in g old) (λ fs. IsReadAs fs (outcome c.regions.items report))
     pub fresh : IsFresh limit c.regions.items c.system c.vault
-    pub whole : IsWholeCore (told_in told) c.regions.items c.system.state c.vault
-    pub begins : IfSome (told_in told old) (λ fs. BeginsRun (told_in told) (leaves_in may_leave) (faults_in faults) limit fs c.regions.items c.system.state c.vault)
-    pub rests : IfSome (told_in told old) (λ fs. (x : Files) → leaves_in may_leave c.vault.store x → LeavesAtRest fs x)
-    pub idle : IfSome (told_in told old) (λ fs. StaysIdle (told_in told) (leaves_in may_leave) (moment_in moment) (since_in left_since) fs old c.vault.store)
-    pub left : Leaves told may_leave moment left_since faults old c.vault.store
-    pub kept : faults_in faults c.vault.store ≡ faults_in faults old
+    pub whole : IsWholeCore (told_in g) c.regions.items c.system.state c.vault
+    pub begins : IfSome (told_in g old) (λ fs. BeginsRun (told_in g) (leaves_in g) (faults_in g) limit fs c.regions.items c.system.state c.vault)
+    pub rests : IfSome (told_in g old) (λ fs. (x : Files) → leaves_in g c.vault.store x → LeavesAtRest fs x)
+    pub idle : IfSome (told_in g old) (λ fs. StaysIdle (told_in g) (leaves_in g) (moment_in g) (since_in g) fs old c.vault.store)
+    pub left : Leaves g old c.vault.store
+    pub kept : faults_in g c.vault.store ≡ faults_in g old
+
+  -- it began with the store that was given up
+  pub restored_by : (old f : Fuse V) (c : Core (Fuse V)) (report : Report) → f ≡ old → IfSome (told_in g f) (λ fs. Gives fs (outcome c.regions.items report)) → IfSome (told_in g f) (λ fs. IsReadAs fs (outcome c.regions.items report))
+      → IsFresh limit c.regions.items c.system c.vault → IsWholeCore (told_in g) c.regions.items c.system.state c.vault
+      → IfSome (told_in g f) (λ fs. BeginsRun (told_in g) (leaves_in g) (faults_in g) limit fs c.regions.items c.system.state c.vault) → IfSome (told_in g f) (λ fs. (x : Files) → leaves_in g c.vault.store x → LeavesAtRest fs x)
+      → IfSome (told_in g f) (λ fs. StaysIdle (told_in g) (leaves_in g) (moment_in g) (since_in g) fs f c.vault.store) → Leaves g f c.vault.store → faults_in g c.vault.store ≡ faults_in g f → Restored old c report
+  restored_by old f c report same gives read fresh whole begins rests idle left kept =
+      subst (λ (o : Fuse V). Restored o c report) same
+      (record { gives = gives; read = read; fresh = fresh; whole = whole; begins = begins; rests = rests; idle = idle; left = left; kept = kept })
 
   -- no database was missing
-  pub restored_rereads : (old : Fuse V) (c : Core (Fuse V)) (report : Report) → Restored old c report → Rereads told may_leave moment left_since faults old c.vault.store
-  restored_rereads old c report made = record { left = made.left; none = by_told (told_in told old) made.read }
+  pub restored_rereads : (old : Fuse V) (c : Core (Fuse V)) (report : Report) → Restored old c report → Rereads g old c.vault.store
+  restored_rereads old c report made = record { left = made.left; none = by_told (told_in g old) made.read }
     where
       by_told : (o : Option Files) → IfSome o (λ fs. IsReadAs fs (outcome c.regions.items report))
-          → IfSome o (λ fs. IsUnformatted fs.log → OnlyReads (told_in told) (moment_in moment) (since_in left_since) (leaves_in may_leave) old c.vault.store)
+          → IfSome o (λ fs. IsUnformatted fs.log → OnlyReads (told_in g) (moment_in g) (since_in g) (leaves_in g) old c.vault.store)
       by_told None read = tt
       by_told (Some fs) read = λ without. absurd ((reads_once fs (outcome c.regions.items report) read).2 without)
 
   pub restart_steps : (p : Program V) (c : Core (Fuse V)) (report : Report) (text : List ℕ)
       → text ≡ texts (lines.RolledBack report.rolled_back.items ∷ lines.Deleted report.deleted.items ∷ []) → Restored (store_of p) c report
-      → StepsRestart told may_leave moment left_since faults limit p text (Up c)
+      → StepsRestart g limit p text (Up c)
   restart_steps p c report text printed made = inl (record {
     core = c;
     report = report;
@@ -170,8 +180,8 @@ module _ {V : Type 0} (told : V → Option Files) (may_leave : V → Files → T
   })
 
   pub restart_stops : (p : Program V) (f : Fuse V) (failed : ℕ) (text : List ℕ) → failed ≡ failed_of (store_of p) → failed < failed_of f
-      → Rose (faults_in faults (store_of p)) (faults_in faults f) → Rereads told may_leave moment left_since faults (store_of p) f → text ≡ texts (lines.RestartStoreStopped ∷ [])
-      → StepsRestart told may_leave moment left_since faults limit p text (Down f)
+      → Rose (faults_in g (store_of p)) (faults_in g f) → Rereads g (store_of p) f → text ≡ texts (lines.RestartStoreStopped ∷ [])
+      → StepsRestart g limit p text (Down f)
   restart_stops p f failed text was less rose left printed = inr (record {
     store = f;
     down = refl;
@@ -182,16 +192,16 @@ module _ {V : Type 0} (told : V → Option Files) (may_leave : V → Files → T
   })
 
   pub restart_stops_over : (p : Program V) (old f : Fuse V) (failed : ℕ) (text : List ℕ) → old ≡ store_of p → failed ≡ failed_of old → failed < failed_of f
-      → Rose (faults_in faults old) (faults_in faults f) → Rereads told may_leave moment left_since faults old f → text ≡ texts (lines.RestartStoreStopped ∷ [])
-      → StepsRestart told may_leave moment left_since faults limit p text (Down f)
+      → Rose (faults_in g old) (faults_in g f) → Rereads g old f → text ≡ texts (lines.RestartStoreStopped ∷ [])
+      → StepsRestart g limit p text (Down f)
   restart_stops_over p old f failed text is was less rose left printed =
-      restart_stops p f failed text (was ∙ ap (λ (o : Fuse V). failed_of o) is) less (subst (λ (o : Fuse V). Rose (faults_in faults o) (faults_in faults f)) is rose)
-      (subst (λ (o : Fuse V). Rereads told may_leave moment left_since faults o f) is left) printed
+      restart_stops p f failed text (was ∙ ap (λ (o : Fuse V). failed_of o) is) less (subst (λ (o : Fuse V). Rose (faults_in g o) (faults_in g f)) is rose)
+      (subst (λ (o : Fuse V). Rereads g o f) is left) printed
 
   -- it was handed out, and there was no memory for its lines
   pub restored_fails : {T : Type 0} (precheck : Bool) (r : Result T Halt) (p : Program V) (c : Core (Fuse V)) (report : Report) → Restored (store_of p) c report
-      → IfErr r (λ halt. halt ≡ OutOfMemory) → IfErr r (λ halt. Fails told may_leave moment left_since faults precheck halt Restart p c.vault.store)
+      → IfErr r (λ halt. halt ≡ OutOfMemory) → IfErr r (λ halt. Fails g precheck halt Restart p c.vault.store)
   restored_fails precheck (Ok x) p c report made memory = tt
   restored_fails precheck (Err halt) p c report made memory =
-      subst (λ (h : Halt). Fails told may_leave moment left_since faults precheck h Restart p c.vault.store) (sym memory)
+      subst (λ (h : Halt). Fails g precheck h Restart p c.vault.store) (sym memory)
       (restored_rereads (store_of p) c report made, λ few. made.kept)

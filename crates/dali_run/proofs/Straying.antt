@@ -16,14 +16,14 @@ use Rattle.dali_record.specs.Spelling.{ascends}
 use Rattle.dali_region.specs.State.{RegionState}
 use Rattle.dali_report.specs.Lines.{alone_text}
 use Rattle.dali_round.specs.Leads.{lines_in}
-use Rattle.dali_store.specs.Store.{Files as Disk}
+use Rattle.dali_store.specs.declared.store.Store.{Ghosts}
 use Rattle.dali_history.proofs.Prefixes.{rules_front}
 use Rattle.dali_system.specs.Run.{LogRun}
 use Rattle.dali_system.specs.State.{CoreState}
 use Rattle.dali_system.specs.Steps.{audit_record}
 use Rattle.dali_transcripts.proofs.Owned.{own_ascend}
 use Rattle.dali_transcripts.specs.Laws.{IsIn}
-use Rattle.dali_transcripts.specs.Moves.{Receipt, Place, Outside, Spot, Move, Begins, BeginsAgain, IsRefusedBegin, Skips, Rests, Answers, IsRefusedCall, Dies, IsArmed, GivesWay, GivesUp, Commits, CommitFails, IsRefusedCommit, Aborts, IsRefusedAbort, Ends, StaysOpen, Pokes, PokesNothing, Audits as AuditsOnce, IsRefusedAudit, Checkpoints, FailsCheckpoint, IsRefusedCheckpoint, from, said, own, to, start, audit_own, failure_own, spanned}
+use Rattle.dali_transcripts.specs.Moves.{Receipt, Place, Outside, Spot, Move, Begins, BeginsAgain, IsRefusedBegin, Pokes, PokesNothing, Audits as AuditsOnce, IsRefusedAudit, Checkpoints, FailsCheckpoint, IsRefusedCheckpoint, from, said, own, to, start, audit_own, failure_own, spanned}
 use Rattle.dali_transcripts.specs.Rounds.{HoldsTogether}
 use Rattle.dali_transcripts.specs.Transcripts.{EachTells, IsPath, IsTranscript, count_with, deeds_of, is_among, own_by, owned, said_by}
 use Rattle.dali_transcripts.specs.Words.{Act, Audits, Checkpoints as CheckpointAct, Said, AuditSaid, CheckpointSaid, CheckpointFailed, Refused}
@@ -90,21 +90,6 @@ lone_move : (x : Move) → IsCalm (from x).place → list_all is_lone (from x).r
 lone_move (Begins t n rest) calm only one = absurd (cc only)
 lone_move (BeginsAgain t n tries h rest) calm only one = absurd calm
 lone_move (IsRefusedBegin place s n why rest) calm only one = absurd (cc only)
-lone_move (Skips s act rest) calm only one = absurd calm
-lone_move (Rests t act rest) calm only one = absurd calm
-lone_move (Answers t tries cs d work n call a rest) calm only one = absurd calm
-lone_move (IsRefusedCall t tries cs d s work n back call why rest) calm only one = absurd calm
-lone_move (Dies t tries cs d work n r call rest) calm only one = absurd calm
-lone_move (IsArmed t tries cs d s count rest) calm only one = absurd calm
-lone_move (GivesWay t tries cs d work call f back end rest) calm only one = absurd calm
-lone_move (GivesUp t tries cs d work call f back end rest) calm only one = absurd calm
-lone_move (Commits t tries cs d n behind rest) calm only one = absurd calm
-lone_move (CommitFails t tries cs d n m why rest) calm only one = absurd calm
-lone_move (IsRefusedCommit t tries cs d s n why rest) calm only one = absurd calm
-lone_move (Aborts t tries cs d work n rest) calm only one = absurd calm
-lone_move (IsRefusedAbort t tries cs d s work n why rest) calm only one = absurd calm
-lone_move (Ends t tries cs d work n) calm only one = absurd calm
-lone_move (StaysOpen t tries cs d s work n cause) calm only one = absurd calm
 lone_move (Pokes s n r w m rest) calm only one = absurd (cc only)
 lone_move (PokesNothing s r w m rest) calm only one = absurd (cc only)
 lone_move (AuditsOnce b n found failed rest) calm only one = (
@@ -137,6 +122,7 @@ lone_move (FailsCheckpoint since b n until r rs failed rest) calm only one = (
 )
 lone_move (IsRefusedCheckpoint s span late work n why rest) calm only one =
     (silent (Refused CheckpointAct why) (own (IsRefusedCheckpoint s span late work n why rest)) refl, tt, last_one CheckpointAct rest one)
+lone_move _ calm only one = absurd calm
 
 no_more : (x : Move) → IsCalm (from x).place → (from x).rest ≡ [] → ⊥
 no_more (Begins t n rest) calm none = absurd (cc none)
@@ -285,16 +271,16 @@ says_once w act (t ∷ []) lone tells =
       tells = once.tells;
     }
 
-module _ {V : Type 0} (told : V → Option Disk) (may_leave : V → Disk → Type 0) (moment : V → ℕ) (left_since : V → ℕ → Disk → Type 0) (faults : V → ℕ) (precheck : Bool) where
-  pub record LoneNames (act : Act) (c : Core (Fuse V)) (text : List ℕ) (d : Core (Fuse V)) (acts : ActsAlone told may_leave moment left_since faults precheck act c text d) : Type 0 where
+module _ {V : Type 0} (g : Ghosts V) (precheck : Bool) where
+  pub record LoneNames (act : Act) (c : Core (Fuse V)) (text : List ℕ) (d : Core (Fuse V)) (acts : ActsAlone g precheck act c text d) : Type 0 where
     pub line : Said
     pub lines_are : map lines_in acts.transcripts ≡ (line ∷ []) ∷ []
     pub printed : text ≡ alone_text line
     pub list : (found : List ℕ) → list_in line ≡ Some found → IsList (length c.regions.items) found
-    pub names : (found : List ℕ) → list_in line ≡ Some found → (r : ℕ) (g : RegionState) → slice_get c.regions.items r ≡ Some g → Contains found r ↔ (g.stray ≢ 0)
+    pub names : (found : List ℕ) → list_in line ≡ Some found → (r : ℕ) (x : RegionState) → slice_get c.regions.items r ≡ Some x → Contains found r ↔ (x.stray ≢ 0)
 
-  pub lone_names : (act : Act) (c d : Core (Fuse V)) (text : List ℕ) → is_lone act ≡ true → IsStanding told may_leave faults c
-      → (acts : ActsAlone told may_leave moment left_since faults precheck act c text d) → LoneNames act c text d acts
+  pub lone_names : (act : Act) (c d : Core (Fuse V)) (text : List ℕ) → is_lone act ≡ true → IsStanding g c
+      → (acts : ActsAlone g precheck act c text d) → LoneNames act c text d acts
   lone_names act c d text lone at acts =
       let led = acts.plays at.start at.batches at.point at.begins in
       let round = led.round in
@@ -317,13 +303,13 @@ module _ {V : Type 0} (told : V → Option Disk) (may_leave : V → Disk → Typ
             let tells = once.tells found e in
             let there = in_log (log_of w) (audit_record tells.0 found) (deeds_of w 1) (own_ascend w 1).logged tells.1 in
             subst (λ (n : ℕ). IsList n found) sizes (list_at led.to.core.system.sizes (log_of w) there.0 tells.0 found log there.1);
-        names = λ found e r g region.
+        names = λ found e r x region.
             let tells = once.tells found e in
-            names_strays round.world round.together round.transcripts.owners tells.0 found tells.1 tells.2 r g (ap (λ (l : List RegionState). slice_get l r) start_is ∙ region);
+            names_strays round.world round.together round.transcripts.owners tells.0 found tells.1 tells.2 r x (ap (λ (l : List RegionState). slice_get l r) start_is ∙ region);
       }
 
-  pub lone_audit_tells : LoneAuditTells told may_leave moment left_since faults precheck
-  lone_audit_tells base c d text found at acts lines_are r g region =
-      let once = lone_names Audits c d text refl (standing_of told may_leave faults base c at) acts in
+  pub lone_audit_tells : LoneAuditTells g precheck
+  lone_audit_tells base c d text found at acts lines_are r x region =
+      let once = lone_names Audits c d text refl (standing_of g base c at) acts in
       let same : once.line ≡ AuditSaid found = cc (sym once.lines_are ∙ lines_are) in
-      once.names found (ap list_in same) r g region
+      once.names found (ap list_in same) r x region

@@ -10,7 +10,7 @@ use Rattle.dali_arguments.specs.Meaning.{meaning}
 use Rattle.dali_arguments.specs.declared.task.Task.{Task}
 use Rattle.dali_arguments.specs.declared.task.Task.TheVariants.{Run, Generate, Dump}
 use Rattle.dali_arguments.proofs.InRange.{in_range}
-use Rattle.dali_run.proofs.Made.{format_begins, restart_begins}
+use Rattle.dali_run.proofs.Made.{restart_begins}
 use Rattle.dali_run.proofs.Shown.{right_at}
 use Rattle.dali_again.proofs.Stages.{same_sizes}
 use Rattle.dali_crash.specs.Checkpoints.{Point}
@@ -20,7 +20,6 @@ use Rattle.dali_crash.specs.Traces.{bases_of, start_point}
 use Rattle.dali_crash.proofs.CrashLogs.{cut_parts}
 use Rattle.dali_crash.proofs.Honest.{unpoked_escapes_none}
 use Rattle.dali_crash.proofs.Restarts.{crash_is_history}
-use Rattle.dali_crash.proofs.Courses.{format_is_history}
 use Rattle.dali_crash.proofs.Traces.{every_trace_is_right, trace_prefix}
 use Rattle.dali_generator.specs.Generated.{AreWithin, generated, index_regions, heap_regions}
 use Rattle.dali_generator.specs.Summary.{summary_of, summary_left}
@@ -32,11 +31,10 @@ use Rattle.dali_memstore.specs.Fuse.{inner}
 use Rattle.dali_memstore.specs.declared.fuse.Fuse.{Fuse}
 use Rattle.dali_record.specs.declared.records.Call.{Call}
 use Rattle.dali_record.specs.declared.records.Record.{Record}
-use Rattle.dali_record.specs.declared.records.Record.TheVariants.{Format}
 use Rattle.dali_record.specs.Epochs.{Cut, Epoch, last_epoch}
 use Rattle.dali_record.specs.Files.{Files}
 use Rattle.dali_record.specs.Legal.{sizes_of as sizes_in}
-use Rattle.dali_restart.specs.Formatted.{first_at, first_record}
+use Rattle.dali_restart.specs.Formatted.{first_record}
 use Rattle.dali_restart.specs.Restarting.{outcome, BeginsRun, Gives, GoesOnFrom}
 use Rattle.dali_round.specs.Leads.{lines_in}
 use Rattle.dali_served.specs.Free.{HasNoRows}
@@ -46,6 +44,7 @@ use Rattle.dali_served.proofs.Generated.{generated_are_served}
 use Rattle.dali_served.proofs.Law.{served_rounds}
 use Rattle.dali_served.proofs.Summing.{summaries_follow}
 use Rattle.dali_store.specs.Store.{Files as Disk}
+use Rattle.dali_store.specs.declared.store.Store.{Ghosts}
 use Rattle.dali_streams.specs.Streams.{Appends}
 use Rattle.dali_system.specs.Crashes.{NoneEscapes}
 use Rattle.dali_system.specs.Run.{Bases, RunsOn, log_in}
@@ -66,14 +65,14 @@ use Rattle.dali_run.specs.declared.status.Status.TheVariants.{Done}
 use Rattle.dali_run.specs.Ends.{Course, Ended, EndedGenerator, GeneratorFinds, LastLine}
 use Rattle.dali_run.specs.Generating.{fails_by_fuse, first_full, halt_of, halt_of_round, sum_of_keys}
 use Rattle.dali_run.specs.Honest.{AreHonest, FoundIsHonest, NonePoked, PokesNowhere}
-use Rattle.dali_run.specs.Program.{IsDown, store_of, told_in, leaves_in, faults_in}
+use Rattle.dali_run.specs.Program.{IsDown, store_of, told_in, leaves_in, faults_in, fused}
 use Rattle.dali_run.specs.Steps.{Plays, Restarts, StepsSize}
 use Rattle.dali_run.specs.Summaries.{SummaryDepends}
 use Rattle.dali_run.specs.Survives.{IsOwn, IsPointOf, NoneEscapesAt}
 use Rattle.dali_run.specs.Told.{told_by, sizes_of}
 use Rattle.dali_run.proofs.Honest.{played_unpoked, runs_are_honest}
 use Rattle.dali_run.proofs.Serves.{all_fit, are_told, one_each}
-use Rattle.dali_run.proofs.Surviving.{no_words, no_heads, none_synced, none_escapes, own_same, at_start, tells_on, told_there}
+use Rattle.dali_run.proofs.Surviving.{no_words, no_heads, none_synced, none_escapes, own_same, size_point, tells_on, told_there}
 
 -- ---- a round that ended nothing: its log had room, and nothing stopped it
 ended_none : (full : Option Halt) (stop : Option Cause) (by_fuse : Bool) → halt_of full stop by_fuse ≡ None → (full ≡ None) × (stop ≡ None)
@@ -113,11 +112,11 @@ written None mid after text f g e last = by_last (subst (λ (o : Option (List �
     by_last (inl all) = all.0
     by_last (inr some) = some.0
 
-module _ {V : Type 0} (told : V → Option Disk) (may_leave : V → Disk → Type 0) (moment : V → ℕ) (left_since : V → ℕ → Disk → Type 0) (faults : V → ℕ)
-    (reads_now : (s : V) → IfSome (told s) (λ fs. may_leave s fs)) (counts_now : (s : V) (t : ℕ) (c : Disk) → t ≤ moment s → may_leave s c → left_since s t c) where
+module _ {V : Type 0} (g : Ghosts V)
+    (reads_now : (s : V) → IfSome (g.told s) (λ fs. g.may_leave s fs)) (counts_now : (s : V) (t : ℕ) (c : Disk) → t ≤ g.moment s → g.may_leave s c → g.left_since s t c) where
   -- ---- a database that was just made
   record IsFirst (s : Sizes) (core : Core (Fuse V)) : Type 0 where
-    at : IsPointOf told may_leave faults (first_record s ∷ []) core
+    at : IsPointOf g (first_record s ∷ []) core
     log : at.start.log ≡ first_record s ∷ []
     point : at.point ≡ start_point at.start
 
@@ -125,28 +124,16 @@ module _ {V : Type 0} (told : V → Option Disk) (may_leave : V → Disk → Typ
   BeginsFirst s (Up core) = IsFirst s core
   BeginsFirst s (Down store) = Unit {0}
 
-  down_own : (base : List Record) (p : Program V) (store : V) → IsDown p store → IsOwn told may_leave base store → IsOwn told may_leave base (inner (store_of p))
+  down_own : (base : List Record) (p : Program V) (store : V) → IsDown p store → IsOwn g base store → IsOwn g base (inner (store_of p))
   down_own base p store down own =
-      own_same told may_leave faults base store (inner (store_of p)) (sym down.store_is ∙ ap (λ (q : Program V). inner (store_of q)) (sym down.down)) own
+      own_same g base store (inner (store_of p)) (sym down.store_is ∙ ap (λ (q : Program V). inner (store_of q)) (sym down.down)) own
 
-  first_of : (limit index heap : ℕ) (base : List Record) (old : Program V) (text : List ℕ) (core : Core (Fuse V)) → IsOwn told may_leave base (inner (store_of old))
-      → StepsSize told may_leave moment left_since faults limit index heap old text (Up core) → IsFirst (sizes_of index heap) core
+  first_of : (limit index heap : ℕ) (base : List Record) (old : Program V) (text : List ℕ) (core : Core (Fuse V)) → IsOwn g base (inner (store_of old))
+      → StepsSize g limit index heap old text (Up core) → IsFirst (sizes_of index heap) core
+  unfolding size_point
   first_of limit index heap base old text core own step =
       let s = sizes_of index heap in
-      let start = first_at (told_in told) (leaves_in may_leave) (faults_in faults) s limit step.core.vault no_words no_heads none_synced in
-      let begins = format_begins (told_in told) (leaves_in may_leave) (faults_in faults) s limit step.core.regions.items step.core.system step.core.vault step.fresh step.whole step.begins no_words
-      no_heads none_synced in
-      let at : IsPointOf told may_leave faults (first_record s ∷ []) step.core = record {
-        tells = step.left.tells ∙ own.0;
-        start = start;
-        placed = begins.1;
-        history = format_is_history s (begins.0.stands.at.vault.run.run.run.runs.log.spelled 0 (Format index heap) refl);
-        batches = (first_record s ∷ []) ∷ [];
-        point = start_point start;
-        begins = begins.0;
-        flushed = at_start told may_leave moment left_since faults reads_now counts_now start begins.0.stands.at.vault.run;
-      } in
-      let first : IsFirst s step.core = record { at = at; log = refl; point = refl } in
+      let first : IsFirst s step.core = record { at = size_point g reads_now counts_now limit index heap old (Up core) text own.0 step; log = refl; point = refl } in
       subst (BeginsFirst s) (sym step.up) first
 
   -- ---- its round
@@ -165,16 +152,16 @@ module _ {V : Type 0} (told : V → Option Disk) (may_leave : V → Disk → Typ
       history : IsHistory (log_in files)
       served : HasServed calls (log_in files)
 
-    served_behind : (made played : Core (Fuse V)) (ts : List Transcribed) → IsFirst (sizes_of (index_regions clients size) (heap_regions clients size)) made → Plays told may_leave faults false true blocks made ts played
-        → halt_of_round ts played.system.state.stop (fails_by_fuse made played) ≡ None → is_some (told_in told played.vault.store) ≡ true → NonePoked played.regions.items → NoneEscapesAt may_leave played
-        → (c : Disk) → leaves_in may_leave played.vault.store c → IsLeftBy played c
+    served_behind : (made played : Core (Fuse V)) (ts : List Transcribed) → IsFirst (sizes_of (index_regions clients size) (heap_regions clients size)) made → Plays g false true blocks made ts played
+        → halt_of_round ts played.system.state.stop (fails_by_fuse made played) ≡ None → is_some (told_in g played.vault.store) ≡ true → NonePoked played.regions.items → NoneEscapesAt g played
+        → (c : Disk) → leaves_in g played.vault.store c → IsLeftBy played c
     served_behind made played ts first plays ended tells quiet none c may =
         let s = sizes_of (index_regions clients size) (heap_regions clients size) in
         let a = first.at in
         let start = a.start in
         let led = plays start a.batches a.point a.begins in
         let stands = led.stands in
-        let each : AllSpell (leaves_in may_leave played.vault.store) (TracedTo start led.batches led.to) = told_there (told_in told played.vault.store) tells stands.at.vault.files in
+        let each : AllSpell (leaves_in g played.vault.store) (TracedTo start led.batches led.to) = told_there (told_in g played.vault.store) tells stands.at.vault.files in
         let one = each c may in
         let E = one.0 in
         let t = one.2 in
@@ -192,7 +179,7 @@ module _ {V : Type 0} (told : V → Option Disk) (may_leave : V → Disk → Typ
         let runs : RunsOn (bases_of start) led.to.log led.to.core = subst (λ (K : List Record). RunsOn (bases_of start) K led.to.core) (sym run.log) run.run.runs in
         let from : (last_epoch led.to.log).first ≤ length led.to.log =
         omega (arith, subst (λ (K : List Record). (last_epoch K).first ≤ length start.log) (sym run.log) run.run.began, begun, run.run.frame, run.run.taken, ap length run.log) in
-        let calm : NonePoked led.to.core.regions = λ r g there. quiet r g (ap (λ (l : List RegionState). slice_get l r) (sym stands.at.regions) ∙ there) in
+        let calm : NonePoked led.to.core.regions = λ r x there. quiet r x (ap (λ (l : List RegionState). slice_get l r) (sym stands.at.regions) ∙ there) in
         let whole : IsHistory (log_of w) =
         subst (λ (K : List Record). IsHistory K) log (whole_history (bases_of start) led.to.log led.to.core runs (right_at start led.batches led.to a.history E t) from calm) in
         let rows : HasNoRows a.point.core = λ n. ap (λ (p : Point). row_of p.core.system n) first.point ∙ get-empty nat_cmp n in
@@ -228,57 +215,56 @@ module _ {V : Type 0} (told : V → Option Disk) (may_leave : V → Disk → Typ
     same_in L M (inl same) = ap sizes_in same
     same_in L M (inr closed) = ap sizes_in closed ∙ same_sizes L
 
-    sums_found : (limit : ℕ) (old : Program V) (text : List ℕ) (found played : Core (Fuse V)) → is_some (told (inner (store_of old))) ≡ true
-        → ((c : Disk) → may_leave (inner (store_of old)) c → IsLeftBy played c)
-        → (step : Restarts told may_leave moment left_since faults limit old text (Up found)) → Sums found
+    sums_found : (limit : ℕ) (old : Program V) (text : List ℕ) (found played : Core (Fuse V)) → is_some (g.told (inner (store_of old))) ≡ true
+        → ((c : Disk) → g.may_leave (inner (store_of old)) c → IsLeftBy played c)
+        → (step : Restarts g limit old text (Up found)) → Sums found
     sums_found limit old text found played tells left step =
-        subst SumsIn (sym step.up) (by_told (told (inner (store_of old))) tells (reads_now (inner (store_of old))) step.gives step.begins)
+        subst SumsIn (sym step.up) (by_told (g.told (inner (store_of old))) tells (reads_now (inner (store_of old))) step.gives step.begins)
       where
         from : (fs : Disk) → IsLeftBy played fs → Gives fs (outcome step.core.regions.items step.report)
-            → BeginsRun (told_in told) (leaves_in may_leave) (faults_in faults) limit fs step.core.regions.items step.core.system.state step.core.vault → Sums step.core
+            → BeginsRun (told_in g) (leaves_in g) (faults_in g) limit fs step.core.regions.items step.core.system.state step.core.vault → Sums step.core
         from fs has gives runs rows listing =
             let o = gives has.files has.spells has.finds in
             let expected = o.records has.history in
-            let at = restart_begins (told_in told) (leaves_in may_leave) (faults_in faults) limit fs has.files step.core.regions.items step.core.system step.core.vault step.fresh step.whole runs has.spells has.finds
+            let at = restart_begins (fused g) limit fs has.files step.core.regions.items step.core.system step.core.vault step.fresh step.whole runs has.spells has.finds
             no_words no_heads none_synced in
             let sizes : step.core.system.state.sizes ≡ sizes_in (log_in has.files) =
             ap (λ (y : SystemState). y.sizes) (sym at.begins.stands.at.system) ∙ same_in (log_in has.files) at.start.log at.log in
             summaries_follow clients size number (log_in has.files) expected.map (sizes_in (log_in has.files)) (in_memory step.core.regions.items) rows within has.served expected.expected_is expected.records_are
             (subst (λ s. IsListing s (in_memory step.core.regions.items) rows) sizes listing)
 
-        by_told : (o : Option Disk) → is_some o ≡ true → IfSome o (λ fs. may_leave (inner (store_of old)) fs) → IfSome o (λ fs. Gives fs (outcome step.core.regions.items step.report))
-            → IfSome o (λ fs. BeginsRun (told_in told) (leaves_in may_leave) (faults_in faults) limit fs step.core.regions.items step.core.system.state step.core.vault) → Sums step.core
+        by_told : (o : Option Disk) → is_some o ≡ true → IfSome o (λ fs. g.may_leave (inner (store_of old)) fs) → IfSome o (λ fs. Gives fs (outcome step.core.regions.items step.report))
+            → IfSome o (λ fs. BeginsRun (told_in g) (leaves_in g) (faults_in g) limit fs step.core.regions.items step.core.system.state step.core.vault) → Sums step.core
         by_told None is may gives runs = absurd cc
         by_told (Some fs) is may gives runs = from fs (left fs may) gives runs
 
-    module _ (cuts : V → ℕ → Option Disk) where
-      sums : (base : List Record) (start : V) (found : Core (Fuse V)) → IsOwn told may_leave base start
-          → (run : GeneratorFinds told may_leave moment left_since faults cuts clients size number start found)
-          → FoundIsHonest told may_leave moment left_since faults cuts clients size number start found run → NonePoked run.run.run.played.regions.items → Sums found
-      sums base start found own run honest quiet =
-          let p = run.run.run in
-          let m = p.is_made in
-          let first = first_of 67108864 (index_regions clients size) (heap_regions clients size) base m.first [] p.made (down_own base m.first start m.down own) m.steps in
-          let r = p.round.round in
-          let tells : is_some (told_in told p.played.vault.store) ≡ true = tells_on (told_in told p.made.vault.store) (told_in told p.played.vault.store) r.longer first.at.tells in
-          let crash = run.run.crash in
-          let store : inner (store_of run.run.crashed) ≡ crash.store = ap (λ (q : Program V). inner (store_of q)) crash.down.down ∙ crash.down.store_is in
-          sums_found 67108864 run.run.crashed run.text found p.played
-          (ap (λ (v : V). is_some (told v)) store ∙ (crash.left.tells ∙ tells))
-          (λ c may. served_behind p.made p.played r.transcripts first r.plays p.round.is tells quiet honest.0 c (crash.left.crash c (subst (λ (v : V). may_leave v c) store may)))
-          run.restart
+    sums : (base : List Record) (start : V) (found : Core (Fuse V)) → IsOwn g base start
+        → (run : GeneratorFinds g clients size number start found)
+        → FoundIsHonest g clients size number start found run → NonePoked run.run.run.played.regions.items → Sums found
+    sums base start found own run honest quiet =
+        let p = run.run.run in
+        let m = p.is_made in
+        let first = first_of 67108864 (index_regions clients size) (heap_regions clients size) base m.first [] p.made (down_own base m.first start m.down own) m.steps in
+        let r = p.round.round in
+        let tells : is_some (told_in g p.played.vault.store) ≡ true = tells_on (told_in g p.made.vault.store) (told_in g p.played.vault.store) r.longer first.at.tells in
+        let crash = run.run.crash in
+        let store : inner (store_of run.run.crashed) ≡ crash.store = ap (λ (q : Program V). inner (store_of q)) crash.down.down ∙ crash.down.store_is in
+        sums_found 67108864 run.run.crashed run.text found p.played
+        (ap (λ (v : V). is_some (g.told v)) store ∙ (crash.left.tells ∙ tells))
+        (λ c may. served_behind p.made p.played r.transcripts first r.plays p.round.is tells quiet honest.0 c (crash.left.crash c (subst (λ (v : V). g.may_leave v c) store may)))
+        run.restart
 
   -- ---- the words
-  module _ (cuts : V → ℕ → Option Disk) (c : Course V) (base : List Record) (own : IsOwn told may_leave base c.store) where
-    generated_text : (clients size number : ℕ) → AreWithin clients size → (mid : Option (List ℕ)) (count : ℕ) (ended : EndedGenerator told may_leave moment left_since faults cuts clients size number c mid count Done)
-        → FoundIsHonest told may_leave moment left_since faults cuts clients size number c.store ended.1.found ended.1.run → Appends c.taken (summary_left clients size number) mid
+  module _ (c : Course V) (base : List Record) (own : IsOwn g base c.store) where
+    generated_text : (clients size number : ℕ) → AreWithin clients size → (mid : Option (List ℕ)) (count : ℕ) (ended : EndedGenerator g clients size number c mid count Done)
+        → FoundIsHonest g clients size number c.store ended.1.found ended.1.run → Appends c.taken (summary_left clients size number) mid
     generated_text clients size number within mid count ended honest =
-        subst (λ text. Appends c.taken text mid) (ended.1.printed ∙ sums clients size number within cuts base c.store ended.1.found own ended.1.run honest
-        (played_unpoked told may_leave moment left_since faults reads_now counts_now cuts clients size number within c base own None ended.1.run.run.run) ended.1.rows ended.1.listing) ended.2.1
+        subst (λ text. Appends c.taken text mid) (ended.1.printed ∙ sums clients size number within base c.store ended.1.found own ended.1.run honest
+        (played_unpoked g reads_now counts_now clients size number within c base own None ended.1.run.run.run) ended.1.rows ended.1.listing) ended.2.1
 
     of_task : (words : List (List ℕ)) (task : Option Task) → meaning words ≡ task → (clients size number : ℕ) → task ≡ Some (Generate clients size number)
-        → (mid : Option (List ℕ)) (count : ℕ) (ended : Ended told may_leave moment left_since faults cuts task c mid count Done)
-        → AreHonest told may_leave moment left_since faults cuts c mid count task Done ended → Appends c.taken (summary_left clients size number) mid
+        → (mid : Option (List ℕ)) (count : ℕ) (ended : Ended g task c mid count Done)
+        → AreHonest g c mid count task Done ended → Appends c.taken (summary_left clients size number) mid
     of_task words None is clients size number same mid count ended honest = absurd cc
     of_task words (Some Dump) is clients size number same mid count ended honest = absurd cc
     of_task words (Some (Run precheck limit)) is clients size number same mid count ended honest = absurd cc
@@ -290,8 +276,8 @@ module _ {V : Type 0} (told : V → Option Disk) (may_leave : V → Disk → Typ
         let three : n ≡ number = cc in
         subst (λ x. Appends c.taken (summary_left clients size x) mid) three (subst (λ x. Appends c.taken (summary_left clients x n) mid) two (subst (λ x. Appends c.taken (summary_left x b n) mid) one text))
 
-  pub summary_depends : (cuts : V → ℕ → Option Disk) → SummaryDepends told may_leave moment left_since faults cuts
-  summary_depends cuts words c base clients size number is own e =
-      let honest = runs_are_honest told may_leave moment left_since faults reads_now counts_now cuts words c Done base own (subst (λ (task : Option Task). PokesNowhere task c) (sym is) tt) e in
+  pub summary_depends : SummaryDepends g
+  summary_depends words c base clients size number is own e =
+      let honest = runs_are_honest g reads_now counts_now words c Done base own (subst (λ (task : Option Task). PokesNowhere task c) (sym is) tt) e in
       written c.taken e.mid c.taken' (summary_left clients size number) e.count c.write_faults'
-      (of_task cuts c base own words (meaning words) refl clients size number is e.mid e.count e.ended honest) e.last
+      (of_task c base own words (meaning words) refl clients size number is e.mid e.count e.ended honest) e.last

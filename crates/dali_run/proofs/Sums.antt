@@ -7,7 +7,7 @@ use Rattle.std.proofs.lemmas.Nat.{xor_comm}
 use Rattle.std.proofs.lemmas.Bool.{eqb-true, eq-eqb}
 use Rattle.std.proofs.Math.Bool.{or_assoc, or_comm}
 use Rattle.dali_transcripts.specs.Words.{Said}
-use Rattle.dali_transcripts.specs.World.{Logs, Strays, DiesOn, Claims, GivesBack, GetsLock, Yields, FindsDead, StartsCheckpoint, MovesAnchor, EndsCheckpoint, Meets, Happening, World, stray_step, stray_after, poked_step, poked_after}
+use Rattle.dali_transcripts.specs.World.{Strays, Happening, World, stray_step, stray_after, poked_step, poked_after}
 use Rattle.dali_transcripts.specs.Moves.{Receipt}
 use Rattle.dali_transcripts.specs.Transcripts.{AreTranscripts, EachTells, Told, count_with, deeds_of, is_among, owned, owned_one}
 use Rattle.dali_transcripts.specs.Rounds.{AreBlocks, IsPlaced}
@@ -196,17 +196,7 @@ stray_one r s (Strays q word mask, c) = by_test (q == r)
     by_test : (b : Bool) → (if b then bit_xor s mask else s) ≡ bit_xor s (xor_of (if b then mask ∷ [] else []))
     by_test true = ap (bit_xor s) (sym (xor_zero_l mask))
     by_test false = sym (xor_zero_r s)
-stray_one r s (Logs x, c) = sym (xor_zero_r s)
-stray_one r s (DiesOn t q, c) = sym (xor_zero_r s)
-stray_one r s (Claims u, c) = sym (xor_zero_r s)
-stray_one r s (GivesBack u o, c) = sym (xor_zero_r s)
-stray_one r s (Yields f, c) = sym (xor_zero_r s)
-stray_one r s (GetsLock t k m, c) = sym (xor_zero_r s)
-stray_one r s (FindsDead f, c) = sym (xor_zero_r s)
-stray_one r s (StartsCheckpoint, c) = sym (xor_zero_r s)
-stray_one r s (MovesAnchor k, c) = sym (xor_zero_r s)
-stray_one r s (EndsCheckpoint, c) = sym (xor_zero_r s)
-stray_one r s (Meets why, c) = sym (xor_zero_r s)
+stray_one r s _ = sym (xor_zero_r s)
 
 stray_is : (r s : ℕ) (xs : List Happening) → stray_after r s xs ≡ bit_xor s (xor_of (masks_at r xs))
 stray_is r s [] = sym (xor_zero_r s)
@@ -231,17 +221,7 @@ poked_one r p (Strays q word mask, c) = by_test (q == r)
     by_test : (b : Bool) → (if b then true else p) ≡ (p || has_any (if b then mask ∷ [] else []))
     by_test true = or_some p
     by_test false = or_none p
-poked_one r p (Logs x, c) = or_none p
-poked_one r p (DiesOn t q, c) = or_none p
-poked_one r p (Claims u, c) = or_none p
-poked_one r p (GivesBack u o, c) = or_none p
-poked_one r p (Yields f, c) = or_none p
-poked_one r p (GetsLock t k m, c) = or_none p
-poked_one r p (FindsDead f, c) = or_none p
-poked_one r p (StartsCheckpoint, c) = or_none p
-poked_one r p (MovesAnchor k, c) = or_none p
-poked_one r p (EndsCheckpoint, c) = or_none p
-poked_one r p (Meets why, c) = or_none p
+poked_one r p _ = or_none p
 
 pub poked_is : (r : ℕ) (p : Bool) (xs : List Happening) → poked_after r p xs ≡ (p || has_any (masks_at r xs))
 poked_is r p [] = or_none p

@@ -12,10 +12,11 @@ use Rattle.dali_memstore.specs.Fuse.{inner}
 use Rattle.dali_memstore.specs.declared.fuse.Fuse.{Fuse}
 use Rattle.dali_record.specs.declared.records.Record.{Record}
 use Rattle.dali_store.specs.Store.{Files as Disk}
+use Rattle.dali_store.specs.declared.store.Store.{Ghosts}
 use Rattle.dali_system.specs.State.{SystemState, TxnRow, row_of, state_in}
 use Rattle.dali_transcripts.specs.World.{is_dead_in}
 use Rattle.dali_whole.specs.declared.whole.Core.{Core}
-use Rattle.dali_run.specs.Program.{told_in, leaves_in, faults_in}
+use Rattle.dali_run.specs.Program.{fused}
 use Rattle.dali_run.specs.Survives.{IsPointOf}
 use Rattle.dali_run.specs.Unpoked.{AreUnpoked, HasServed, UnpokedShows, UnpokedVerifies}
 use Rattle.dali_run.proofs.Surviving.{Behind, cleaned_point}
@@ -31,18 +32,18 @@ no_row : (o row : Option TxnRow) → o ≡ row → (IsSome row → is_dead_in (s
 no_row o None is dead none = is
 no_row o (Some row) is dead none = absurd (none (is_dead (state_in (Some row)) (dead refl)))
 
-module _ {V : Type 0} (told : V → Option Disk) (may_leave : V → Disk → Type 0) (moment : V → ℕ) (left_since : V → ℕ → Disk → Type 0) (faults : V → ℕ)
-    (reads_now : (s : V) → IfSome (told s) (λ fs. may_leave s fs)) (counts_now : (s : V) (t : ℕ) (c : Disk) → t ≤ moment s → may_leave s c → left_since s t c) where
-  behind_of : (base : List Record) (c d : Core (Fuse V)) → HasServed told may_leave faults base c d → Behind told may_leave faults base d
-  behind_of base c d served = cleaned_point told may_leave moment left_since faults reads_now counts_now base c d served.cleaned served.ran served.at
+module _ {V : Type 0} (g : Ghosts V)
+    (reads_now : (s : V) → IfSome (g.told s) (λ fs. g.may_leave s fs)) (counts_now : (s : V) (t : ℕ) (c : Disk) → t ≤ g.moment s → g.may_leave s c → g.left_since s t c) where
+  behind_of : (base : List Record) (c d : Core (Fuse V)) → HasServed g base c d → Behind g base d
+  behind_of base c d served = cleaned_point g reads_now counts_now base c d served.cleaned served.ran served.at
 
-  abbrev log_of : (base : List Record) (c d : Core (Fuse V)) → HasServed told may_leave faults base c d → List Record
+  abbrev log_of : (base : List Record) (c d : Core (Fuse V)) → HasServed g base c d → List Record
   log_of base c d served = (behind_of base c d served).log
 
-  point_of : (base : List Record) (c d : Core (Fuse V)) → (served : HasServed told may_leave faults base c d) → IsPointOf told may_leave faults (log_of base c d served) d
+  point_of : (base : List Record) (c d : Core (Fuse V)) → (served : HasServed g base c d) → IsPointOf g (log_of base c d served) d
   point_of base c d served = (behind_of base c d served).point
 
-  serving : (base : List Record) (c d : Core (Fuse V)) → HasServed told may_leave faults base c d → IsServing d.system.state
+  serving : (base : List Record) (c d : Core (Fuse V)) → HasServed g base c d → IsServing d.system.state
   serving base c d served = let at = (point_of base c d served).begins in record {
     runs = served.runs;
     nobody = λ t.
@@ -51,16 +52,16 @@ module _ {V : Type 0} (told : V → Option Disk) (may_leave : V → Disk → Typ
         (served.cleaned.none t);
   }
 
-  unpoked_at : (base : List Record) (c d : Core (Fuse V)) → (served : HasServed told may_leave faults base c d) → IsUnpoked (point_of base c d served).point.core
+  unpoked_at : (base : List Record) (c d : Core (Fuse V)) → (served : HasServed g base c d) → IsUnpoked (point_of base c d served).point.core
   unpoked_at base c d served = subst AreUnpoked (sym (point_of base c d served).begins.stands.at.regions) served.unpoked
 
-  expects : (base : List Record) (c d : Core (Fuse V)) → (served : HasServed told may_leave faults base c d) → HoldsExpected (point_of base c d served).point.log d.regions.items d.system.state
+  expects : (base : List Record) (c d : Core (Fuse V)) → (served : HasServed g base c d) → HoldsExpected (point_of base c d served).point.log d.regions.items d.system.state
   expects base c d served =
       let a = point_of base c d served in
-      shows_expected (told_in told) (leaves_in may_leave) (faults_in faults) (λ f. reads_now (inner f)) a.start a.batches a.point d.regions.items d.system.state d.vault a.begins a.tells a.history
+      shows_expected (fused g) (λ f. reads_now (inner f)) a.start a.batches a.point d.regions.items d.system.state d.vault a.begins a.tells a.history
       (serving base c d served) (unpoked_at base c d served)
 
-  pub unpoked_shows : UnpokedShows told may_leave faults
+  pub unpoked_shows : UnpokedShows g
   unpoked_shows base c d text served lists =
       let held = expects base c d served in (
         log_of base c d served,
@@ -76,8 +77,8 @@ module _ {V : Type 0} (told : V → Option Disk) (may_leave : V → Disk → Typ
         },
       )
 
-  pub unpoked_verifies : UnpokedVerifies told may_leave faults
+  pub unpoked_verifies : UnpokedVerifies g
   unpoked_verifies base c d served =
       let a = point_of base c d served in
-      verifies (told_in told) (leaves_in may_leave) (faults_in faults) (λ f. reads_now (inner f)) a.start a.batches a.point d.regions.items d.system.state d.vault a.begins a.tells a.history
+      verifies (fused g) (λ f. reads_now (inner f)) a.start a.batches a.point d.regions.items d.system.state d.vault a.begins a.tells a.history
       (serving base c d served) (unpoked_at base c d served)

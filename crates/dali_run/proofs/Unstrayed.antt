@@ -23,17 +23,10 @@ use Rattle.dali_run.proofs.Sums.{masks_at}
 -- ---- commands of blocks
 pub coming_none : (commands : List ClientCommand) → list_any is_poke commands ≡ false → filter_map poke_in (map act_by commands) ≡ []
 coming_none [] none = refl
-coming_none (clients.Begin ∷ later) none = coming_none later none
-coming_none (clients.Insert key value ∷ later) none = coming_none later none
-coming_none (clients.Update key value ∷ later) none = coming_none later none
-coming_none (clients.Delete key ∷ later) none = coming_none later none
-coming_none (clients.Get key ∷ later) none = coming_none later none
-coming_none (clients.Die operation ∷ later) none = coming_none later none
-coming_none (clients.Commit ∷ later) none = coming_none later none
-coming_none (clients.Abort ∷ later) none = coming_none later none
 coming_none (clients.Poke region word mask ∷ later) none = absurd (cc none)
 coming_none (clients.Audit ∷ later) none = coming_none later none
 coming_none (clients.Checkpoint ∷ later) none = coming_none later none
+coming_none (_ ∷ later) none = coming_none later none
 
 -- ---- one client
 rests_none : (act : Act) (rest : List Act) → coming (act ∷ rest) ≡ [] → coming rest ≡ []

@@ -16,6 +16,7 @@ use Rattle.dali_history.specs.Acknowledged.{IsDeletedByChain}
 use Rattle.dali_history.specs.History.{IsHistory}
 use Rattle.dali_headline.proofs.Undamaged.{undamaged_deleted}
 use Rattle.dali_store.specs.Store.{Files as Disk}
+use Rattle.dali_store.specs.declared.store.Store.{Ghosts}
 use Rattle.dali_batch.specs.Log.{AreSpelled, LogOf, records_in}
 use Rattle.dali_batch.proofs.Unique.{same_records, one_log, log_is_formatted}
 use Rattle.dali_system.specs.State.{SystemState, log_after}
@@ -68,12 +69,12 @@ whole_is fs y L before F e w log flushed spelled =
     by_file (inl none) = absurd (log_is_formatted fs.log F.batches e log none.0)
     by_file (inr has) = has.3 ∙ ap records_in ((one_log fs.log has.0 F.batches has.1 e has.2 log).0)
 
-module _ {V : Type 0} (told : V → Option Disk) (may_leave : V → Disk → Type 0) (faults : V → ℕ) (reads_now : (s : V) → IfSome (told s) (λ fs. may_leave s fs)) where
-  pub verifies : VerifiesAlways told may_leave faults
-  verifies s B p gs y v begins tells history serves clean = by_told (told v.store) (reads_now v.store) begins.stands.at.vault.files
+module _ {V : Type 0} (g : Ghosts V) (reads_now : (s : V) → IfSome (g.told s) (λ fs. g.may_leave s fs)) where
+  pub verifies : VerifiesAlways g
+  verifies s B p gs y v begins tells history serves clean = by_told (g.told v.store) (reads_now v.store) begins.stands.at.vault.files
     where
       held : HoldsExpected p.log gs y
-      held = shows_expected told may_leave faults reads_now s B p gs y v begins tells history serves clean
+      held = shows_expected g reads_now s B p gs y v begins tells history serves clean
 
       runs : RunsOn (bases_of s) p.log p.core
       runs = subst (λ (L : List Record). RunsOn (bases_of s) L p.core) (sym begins.stands.at.vault.run.run.log) begins.stands.at.vault.run.run.run.runs
@@ -83,7 +84,7 @@ module _ {V : Type 0} (told : V → Option Disk) (may_leave : V → Disk → Typ
 
       lists : reported p.log ≡ told_deleted p.log
       lists =
-          ap (λ (l : List ℕ). flat_map named_deleted p.log ++ l) (undamaged_deleted (last_epoch p.log) (none_failed told may_leave faults reads_now s B p gs y v begins serves))
+          ap (λ (l : List ℕ). flat_map named_deleted p.log ++ l) (undamaged_deleted (last_epoch p.log) (none_failed g reads_now s B p gs y v begins serves))
           ∙ append-nil (flat_map named_deleted p.log)
           ∙ sym (same_told p.log)
 
@@ -122,7 +123,7 @@ module _ {V : Type 0} (told : V → Option Disk) (may_leave : V → Disk → Typ
           ∙ ap (λ (z : SystemState). take (length s.log + y.taken) (log_after s.log z)) begins.stands.at.system
           ∙ take-append-add s.log y.since y.taken
 
-      by_told : (o : Option Disk) → IfSome o (λ fs. may_leave v.store fs) → IfSome o (λ _. AllSpell (may_leave v.store) (TracedTo s B p))
+      by_told : (o : Option Disk) → IfSome o (λ fs. g.may_leave v.store fs) → IfSome o (λ _. AllSpell (g.may_leave v.store) (TracedTo s B p))
           → IfSome o (λ fs. (L : List Record) → IsWholeLog fs.log y L → IsVerified y.sizes (in_memory gs) L)
       by_told None now all = tt
       by_told (Some fs) now all = λ L w.

@@ -8,6 +8,7 @@ use Rattle.dali_record.specs.declared.records.Record.{Record}
 use Rattle.dali_script.specs.declared.commands.Command.{Command}
 use Rattle.dali_script.specs.declared.commands.Command.TheVariants.{Size, Open, Round, Poke, Audit, Checkpoint, Cleanup, Crash, Restart, Show, Verify, Next, Fuse as SetFuse}
 use Rattle.dali_store.specs.Store.{Files as Disk}
+use Rattle.dali_store.specs.declared.store.Store.{Ghosts}
 use Rattle.dali_system.specs.declared.causes.Cause.{Cause}
 use Rattle.dali_vault.specs.Vaulted.{Vaulted}
 use Rattle.dali_whole.specs.declared.whole.Core.{Core}
@@ -28,17 +29,17 @@ is_round Audit = true
 is_round Checkpoint = true
 is_round command = false
 
-module _ {V : Type 0} (told : V → Option Disk) (may_leave : V → Disk → Type 0) (moment : V → ℕ) (left_since : V → ℕ → Disk → Type 0) (faults : V → ℕ)
-    (reads_now : (s : V) → IfSome (told s) (λ fs. may_leave s fs)) (counts_now : (s : V) (t : ℕ) (c : Disk) → t ≤ moment s → may_leave s c → left_since s t c)
-    (only_now : (s : V) (c : Disk) → left_since s (moment s) c → may_leave s c) where
+module _ {V : Type 0} (g : Ghosts V)
+    (reads_now : (s : V) → IfSome (g.told s) (λ fs. g.may_leave s fs)) (counts_now : (s : V) (t : ℕ) (c : Disk) → t ≤ g.moment s → g.may_leave s c → g.left_since s t c)
+    (only_now : (s : V) (c : Disk) → g.left_since s (g.moment s) c → g.may_leave s c) where
   abbrev Since : Program V → V → Disk → Type 0
-  Since old s c = left_since s (moment (inner (store_of old))) c
+  Since old s c = g.left_since s (g.moment (inner (store_of old))) c
 
   abbrev pub HoldsWithin : (Disk → Type 0) → List Record → Program V → V → Type 0
   HoldsWithin P base old s = (c : Disk) → Since old s c → P c → Holds base c
 
   abbrev Owns : (Disk → Type 0) → List Record → Program V → Type 0
-  Owns P base old = IsOwnWhere told may_leave P base (inner (store_of old))
+  Owns P base old = IsOwnWhere g P base (inner (store_of old))
 
   -- the store wasn't called
   same_within : (P : Disk → Type 0) (base : List Record) (old : Program V) (s : V) → s ≡ inner (store_of old) → Owns P base old → HoldsWithin P base old s
@@ -52,76 +53,76 @@ module _ {V : Type 0} (told : V → Option Disk) (may_leave : V → Disk → Typ
 
   -- it was only read
   read_within : (P : Disk → Type 0) (base : List Record) (old : Program V) (f : Fuse V)
-      → OnlyReads (told_in told) (moment_in moment) (since_in left_since) (leaves_in may_leave) (store_of old) f → Owns P base old → HoldsWithin P base old (inner f)
+      → OnlyReads (told_in g) (moment_in g) (since_in g) (leaves_in g) (store_of old) f → Owns P base old → HoldsWithin P base old (inner f)
   read_within P base old f reads own c left is = own.1 c (reads.any_moment.each c left) is
 
   making_read : (Safe : Disk → Type 0) (base : List Record) (old : Program V) (f : Fuse V)
-      → OnlyReads (told_in told) (moment_in moment) (since_in left_since) (leaves_in may_leave) (store_of old) f → Owns (NoneEscapesIn Safe old) base old
-      → HoldsWithin (NoneEscapesMaking told may_leave Safe old) base old (inner f)
+      → OnlyReads (told_in g) (moment_in g) (since_in g) (leaves_in g) (store_of old) f → Owns (NoneEscapesIn Safe old) base old
+      → HoldsWithin (NoneEscapesMaking g Safe old) base old (inner f)
   making_read Safe base old f reads own c left is =
-      let was = reads.any_moment.each c left in was_before told may_leave faults (NoneEscapesIn Safe old) base (inner (store_of old)) c own (λ none before. own.1 c was (before was)) is
+      let was = reads.any_moment.each c left in was_before g (NoneEscapesIn Safe old) base (inner (store_of old)) c own (λ none before. own.1 c was (before was)) is
 
   -- a crash leaves nothing that it might not have left before
-  less_within : (P : Disk → Type 0) (base : List Record) (old : Program V) (s : V) → LeavesLess told may_leave moment left_since (inner (store_of old)) s → Owns P base old → HoldsWithin P base old s
+  less_within : (P : Disk → Type 0) (base : List Record) (old : Program V) (s : V) → LeavesLess g (inner (store_of old)) s → Owns P base old → HoldsWithin P base old s
   less_within P base old s less own c left is =
       own.1 c
-      (⊎_elim (λ past. only_now (inner (store_of old)) c past) (λ now. less.crash c now) (less.time.nothing_else (moment (inner (store_of old))) c (omega arith) left))
+      (⊎_elim (λ past. only_now (inner (store_of old)) c past) (λ now. less.crash c now) (less.time.nothing_else (g.moment (inner (store_of old))) c (omega arith) left))
       is
 
-  module _ (limit : ℕ) (cuts : V → ℕ → Option Disk) (precheck : Bool) where
+  module _ (limit : ℕ) (precheck : Bool) where
     abbrev Within : (Disk → Type 0) → Command → List Record → Program V → V → Type 0
-    Within Safe command base old s = HoldsWithin (SafeWithin told may_leave moment left_since faults limit cuts precheck Safe command old) base old s
+    Within Safe command base old s = HoldsWithin (SafeWithin g limit precheck Safe command old) base old s
 
-    restart_within : (Safe : Disk → Type 0) (base : List Record) (old new : Program V) (text : List ℕ) → StepsRestart told may_leave moment left_since faults limit old text new → Owns (NoneEscapesIn Safe old) base old
-        → HoldsWithin (NoneEscapesMaking told may_leave Safe old) base old (inner (store_of new))
+    restart_within : (Safe : Disk → Type 0) (base : List Record) (old new : Program V) (text : List ℕ) → StepsRestart g limit old text new → Owns (NoneEscapesIn Safe old) base old
+        → HoldsWithin (NoneEscapesMaking g Safe old) base old (inner (store_of new))
     restart_within Safe base old new text (inl step) own c left is =
-        was_before told may_leave faults (NoneEscapesIn Safe old) base (inner (store_of old)) c own
-        (restarts_within told may_leave moment left_since faults reads_now counts_now limit (NoneEscapesIn Safe old) base old new text step own c
+        was_before g (NoneEscapesIn Safe old) base (inner (store_of old)) c own
+        (restarts_within g reads_now counts_now limit (NoneEscapesIn Safe old) base old new text step own c
         (subst (λ (p : Program V). Since old (inner (store_of p)) c) step.up left)) is
     restart_within Safe base old new text (inr step) own c left is =
-        was_before told may_leave faults (NoneEscapesIn Safe old) base (inner (store_of old)) c own
-        (stops_within told may_leave moment left_since faults reads_now counts_now (NoneEscapesIn Safe old) base (store_of old) step.store step.left own c
+        was_before g (NoneEscapesIn Safe old) base (inner (store_of old)) c own
+        (stops_within g reads_now counts_now (NoneEscapesIn Safe old) base (store_of old) step.store step.left own c
         (λ later. subst (λ (p : Program V). Since old (inner (store_of p)) c) step.down left)) is
 
     -- where dead transactions were cleaned up, the store is the same
-    cleaned_within : (P : Disk → Type 0) (base : List Record) (core d : Core (Fuse V)) (new : Program V) → HasCleaned told may_leave faults core d → new ≡ Up d → Owns P base (Up core)
+    cleaned_within : (P : Disk → Type 0) (base : List Record) (core d : Core (Fuse V)) (new : Program V) → HasCleaned g core d → new ≡ Up d → Owns P base (Up core)
         → HoldsWithin P base (Up core) (inner (store_of new))
     cleaned_within P base core d new cleaned up own =
         same_within P base (Up core) (inner (store_of new))
-        (ap (λ (p : Program V). inner (store_of p)) up ∙ ap (λ (v : Vaulted (Fuse V)). inner v.store) (cleaned_vault told may_leave moment left_since faults reads_now counts_now core d cleaned)) own
+        (ap (λ (p : Program V). inner (store_of p)) up ∙ ap (λ (v : Vaulted (Fuse V)). inner v.store) (cleaned_vault g reads_now counts_now core d cleaned)) own
 
-    cleanup_within : (P : Disk → Type 0) (stop : Option Cause) (base : List Record) (core : Core (Fuse V)) (new : Program V) (text : List ℕ) → CleanupIn told may_leave faults stop core text new
+    cleanup_within : (P : Disk → Type 0) (stop : Option Cause) (base : List Record) (core : Core (Fuse V)) (new : Program V) (text : List ℕ) → CleanupIn g stop core text new
         → Owns P base (Up core) → HoldsWithin P base (Up core) (inner (store_of new))
     cleanup_within P (Some cause) base core new text step own = same_state P base (Up core) new step.1 own
     cleanup_within P None base core new text step own = cleaned_within P base core step.0 new step.1 step.2 own
 
-    show_within : (P : Disk → Type 0) (stop : Option Cause) (base : List Record) (core : Core (Fuse V)) (new : Program V) (text : List ℕ) → ShowIn told may_leave faults stop core text new
+    show_within : (P : Disk → Type 0) (stop : Option Cause) (base : List Record) (core : Core (Fuse V)) (new : Program V) (text : List ℕ) → ShowIn g stop core text new
         → Owns P base (Up core) → HoldsWithin P base (Up core) (inner (store_of new))
     show_within P (Some cause) base core new text step own = same_state P base (Up core) new step.1 own
     show_within P None base core new text step own = cleaned_within P base core step.0 new step.1 step.2 own
 
-    compared_reads : (c d : Core (Fuse V)) (text : List ℕ) → EndsComparison told may_leave moment left_since faults c text d
-        → OnlyReads (told_in told) (moment_in moment) (since_in left_since) (leaves_in may_leave) c.vault.store d.vault.store
+    compared_reads : (c d : Core (Fuse V)) (text : List ℕ) → EndsComparison g c text d
+        → OnlyReads (told_in g) (moment_in g) (since_in g) (leaves_in g) c.vault.store d.vault.store
     compared_reads c d text (inl compares) = compares.read.reads
     compared_reads c d text (inr stops) = stops.read.reads
 
     verify_within : (P : Disk → Type 0) (stop : Option Cause) (base : List Record) (core : Core (Fuse V)) (new : Program V) (text : List ℕ)
-        → VerifyIn told may_leave moment left_since faults stop core text new → Owns P base (Up core) → HoldsWithin P base (Up core) (inner (store_of new))
+        → VerifyIn g stop core text new → Owns P base (Up core) → HoldsWithin P base (Up core) (inner (store_of new))
     verify_within P (Some cause) base core new text step own = same_state P base (Up core) new step.1 own
     verify_within P None base core new text step own =
         λ c left is.
         let vault : step.0.vault.store ≡ core.vault.store =
-        ap (λ (v : Vaulted (Fuse V)). v.store) (cleaned_vault told may_leave moment left_since faults reads_now counts_now core step.0 step.2) in
-        let reads = subst (λ (f : Fuse V). OnlyReads (told_in told) (moment_in moment) (since_in left_since) (leaves_in may_leave) f step.1.vault.store) vault
+        ap (λ (v : Vaulted (Fuse V)). v.store) (cleaned_vault g reads_now counts_now core step.0 step.2) in
+        let reads = subst (λ (f : Fuse V). OnlyReads (told_in g) (moment_in g) (since_in g) (leaves_in g) f step.1.vault.store) vault
         (compared_reads step.0 step.1 text step.3) in
         read_within P base (Up core) step.1.vault.store reads own c (subst (λ (p : Program V). Since (Up core) (inner (store_of p)) c) step.4 left) is
 
     pub step_within : (Safe : Disk → Type 0) (command : Command) → IsFit command → is_round command ≡ false → (base : List Record) (old new : Program V) (text : List ℕ)
-        → Steps told may_leave moment left_since faults limit cuts precheck old command text new → Owns (NoneEscapesIn Safe old) base old → Within Safe command base old (inner (store_of new))
+        → Steps g limit precheck old command text new → Owns (NoneEscapesIn Safe old) base old → Within Safe command base old (inner (store_of new))
     step_within Safe (Size index heap) fit none base old new text step own =
         λ c left is.
-        was_before told may_leave faults (NoneEscapesIn Safe old) base (inner (store_of old)) c own
-        (made_within told may_leave moment left_since faults reads_now counts_now index heap fit (NoneEscapesIn Safe old) base (store_of old) step.core.vault.store step.left own c
+        was_before g (NoneEscapesIn Safe old) base (inner (store_of old)) c own
+        (made_within g reads_now counts_now index heap fit (NoneEscapesIn Safe old) base (store_of old) step.core.vault.store step.left own c
         (λ later. subst (λ (p : Program V). Since old (inner (store_of p)) c) step.up left)) is
     step_within Safe Open fit none base old new text step own = restart_within Safe base old new text step own
     step_within Safe Restart fit none base old new text step own = restart_within Safe base old new text step own
@@ -147,7 +148,7 @@ module _ {V : Type 0} (told : V → Option Disk) (may_leave : V → Disk → Typ
 
     -- ---- a command that failed
     pub only_within : (Safe : Disk → Type 0) (command : Command) (base : List Record) (old : Program V) (f : Fuse V)
-        → OnlyReads (told_in told) (moment_in moment) (since_in left_since) (leaves_in may_leave) (store_of old) f → Owns (NoneEscapesIn Safe old) base old → Within Safe command base old (inner f)
+        → OnlyReads (told_in g) (moment_in g) (since_in g) (leaves_in g) (store_of old) f → Owns (NoneEscapesIn Safe old) base old → Within Safe command base old (inner f)
     only_within Safe (Size index heap) base old f reads own = making_read Safe base old f reads own
     only_within Safe Open base old f reads own = making_read Safe base old f reads own
     only_within Safe Restart base old f reads own = making_read Safe base old f reads own
@@ -163,19 +164,19 @@ module _ {V : Type 0} (told : V → Option Disk) (may_leave : V → Disk → Typ
     only_within Safe Checkpoint base old f reads own = read_within (NoneEscapesIn Safe old) base old f reads own
 
     pub broken_within : (Safe : Disk → Type 0) (command : Command) → IsFit command → is_round command ≡ false → (base : List Record) (old : Program V) (f : Fuse V)
-        → Breaks told may_leave moment left_since faults precheck command old f → Owns (NoneEscapesIn Safe old) base old → Within Safe command base old (inner f)
+        → Breaks g precheck command old f → Owns (NoneEscapesIn Safe old) base old → Within Safe command base old (inner f)
     broken_within Safe (Size index heap) fit none base old f breaks own =
         λ c left is.
-        was_before told may_leave faults (NoneEscapesIn Safe old) base (inner (store_of old)) c own
-        (made_within told may_leave moment left_since faults reads_now counts_now index heap fit (NoneEscapesIn Safe old) base (store_of old) f breaks.0 own c (λ later. left)) is
+        was_before g (NoneEscapesIn Safe old) base (inner (store_of old)) c own
+        (made_within g reads_now counts_now index heap fit (NoneEscapesIn Safe old) base (store_of old) f breaks.0 own c (λ later. left)) is
     broken_within Safe Open fit none base old f breaks own =
         λ c left is.
-        was_before told may_leave faults (NoneEscapesIn Safe old) base (inner (store_of old)) c own
-        (stops_within told may_leave moment left_since faults reads_now counts_now (NoneEscapesIn Safe old) base (store_of old) f breaks.0 own c (λ later. left)) is
+        was_before g (NoneEscapesIn Safe old) base (inner (store_of old)) c own
+        (stops_within g reads_now counts_now (NoneEscapesIn Safe old) base (store_of old) f breaks.0 own c (λ later. left)) is
     broken_within Safe Restart fit none base old f breaks own =
         λ c left is.
-        was_before told may_leave faults (NoneEscapesIn Safe old) base (inner (store_of old)) c own
-        (stops_within told may_leave moment left_since faults reads_now counts_now (NoneEscapesIn Safe old) base (store_of old) f breaks.0 own c (λ later. left)) is
+        was_before g (NoneEscapesIn Safe old) base (inner (store_of old)) c own
+        (stops_within g reads_now counts_now (NoneEscapesIn Safe old) base (store_of old) f breaks.0 own c (λ later. left)) is
     broken_within Safe (Crash choice) fit none base old f breaks own = less_within (NoneEscapesIn Safe old) base old (inner f) breaks.0 own
     broken_within Safe (SetFuse passes) fit none base old f breaks own = same_within (NoneEscapesIn Safe old) base old (inner f) breaks own
     broken_within Safe Next fit none base old f breaks own = absurd breaks
@@ -188,19 +189,19 @@ module _ {V : Type 0} (told : V → Option Disk) (may_leave : V → Disk → Typ
     broken_within Safe Checkpoint fit none base old f breaks own = absurd (cc none)
 
     pub failed_within : (Safe : Disk → Type 0) (command : Command) → IsFit command → is_round command ≡ false → (base : List Record) (old : Program V) (f : Fuse V)
-        → StoreFailsIn told may_leave moment left_since faults precheck command old f → Owns (NoneEscapesIn Safe old) base old → Within Safe command base old (inner f)
+        → StoreFailsIn g precheck command old f → Owns (NoneEscapesIn Safe old) base old → Within Safe command base old (inner f)
     failed_within Safe (Size index heap) fit none base old f fails own =
         λ c left is.
-        was_before told may_leave faults (NoneEscapesIn Safe old) base (inner (store_of old)) c own
-        (made_within told may_leave moment left_since faults reads_now counts_now index heap fit (NoneEscapesIn Safe old) base (store_of old) f fails.1 own c (λ later. left)) is
+        was_before g (NoneEscapesIn Safe old) base (inner (store_of old)) c own
+        (made_within g reads_now counts_now index heap fit (NoneEscapesIn Safe old) base (store_of old) f fails.1 own c (λ later. left)) is
     failed_within Safe Open fit none base old f fails own =
         λ c left is.
-        was_before told may_leave faults (NoneEscapesIn Safe old) base (inner (store_of old)) c own
-        (stops_within told may_leave moment left_since faults reads_now counts_now (NoneEscapesIn Safe old) base (store_of old) f fails.1 own c (λ later. left)) is
+        was_before g (NoneEscapesIn Safe old) base (inner (store_of old)) c own
+        (stops_within g reads_now counts_now (NoneEscapesIn Safe old) base (store_of old) f fails.1 own c (λ later. left)) is
     failed_within Safe Restart fit none base old f fails own =
         λ c left is.
-        was_before told may_leave faults (NoneEscapesIn Safe old) base (inner (store_of old)) c own
-        (stops_within told may_leave moment left_since faults reads_now counts_now (NoneEscapesIn Safe old) base (store_of old) f fails.1 own c (λ later. left)) is
+        was_before g (NoneEscapesIn Safe old) base (inner (store_of old)) c own
+        (stops_within g reads_now counts_now (NoneEscapesIn Safe old) base (store_of old) f fails.1 own c (λ later. left)) is
     failed_within Safe (Crash choice) fit none base old f fails own = less_within (NoneEscapesIn Safe old) base old (inner f) fails.1 own
     failed_within Safe Verify fit none base old f fails own = read_within (NoneEscapesIn Safe old) base old f fails.1 own
     failed_within Safe Cleanup fit none base old f fails own = absurd fails

@@ -6,7 +6,7 @@
 --     Round, AreRounds         rounds, one behind another, each of which ended with Done, lead from one core to another
 --     RoundsBegin              behind these it stands so too
 --     CrashRestarts            what a crash leaves is found, and a restart of it answers right, where no audit missed a stray write
-use Rattle.std.specs.Prelude.{◌≡◌, ℕ, Bool, true, List, [], ◌∷◌, Option, IfSome}
+use Rattle.std.specs.Prelude.{◌≡◌, ℕ, Bool, true, List, [], ◌∷◌, IfSome}
 use Rattle.dali_geometry.specs.Sizes.{Sizes}
 use Rattle.dali_record.specs.declared.records.Record.{Record}
 use Rattle.dali_record.specs.Files.{Files}
@@ -14,6 +14,7 @@ use Rattle.dali_region.specs.declared.Side.{Side}
 use Rattle.dali_region.specs.State.{RegionState}
 use Rattle.dali_history.specs.History.{IsHistory}
 use Rattle.dali_store.specs.Store.{Files as Disk}
+use Rattle.dali_store.specs.declared.store.Store.{Ghosts}
 use Rattle.dali_system.specs.State.{SystemState}
 use Rattle.dali_system.specs.Images.{Told}
 use Rattle.dali_system.specs.Run.{log_in}
@@ -44,15 +45,15 @@ pub record Round (V : Type 0) : Type 0 where
   pub system : SystemState
   pub vault : Vaulted V
 
-module _ {V : Type 0} (told : V → Option Disk) (may_leave : V → Disk → Type 0) (faults : V → ℕ) where
+module _ {V : Type 0} (g : Ghosts V) where
   -- ---- a core that was made
   abbrev pub FormatBegins : Type 0
   FormatBegins =
-      (s : Sizes) (limit : ℕ) (gs : List RegionState) (y : Served) (v : Vaulted V) → IsNewCore s limit gs y v → IsWholeCore told gs y.state v
-      → RunBegins told may_leave faults s limit gs y.state v
+      (s : Sizes) (limit : ℕ) (gs : List RegionState) (y : Served) (v : Vaulted V) → IsNewCore s limit gs y v → IsWholeCore g.told gs y.state v
+      → RunBegins g.told g.may_leave g.faults s limit gs y.state v
       → (words : Told) (heads : Side → Head) (synced : Side → Bool)
-      → let start = first_at told may_leave faults s limit v words heads synced in
-      BeginsAt told may_leave faults start ((first_record s ∷ []) ∷ []) (start_point start) gs y.state v × IsPlaced start
+      → let start = first_at g.told g.may_leave g.faults s limit v words heads synced in
+      BeginsAt g.told g.may_leave g.faults start ((first_record s ∷ []) ∷ []) (start_point start) gs y.state v × IsPlaced start
 
   -- a start over the log of the files F, or over that with the record of the restart
   pub record RestartedAt (F : Files) (limit : ℕ) (gs : List RegionState) (y : SystemState) (v : Vaulted V) (words : Told) (heads : Side → Head) (synced : Side → Bool) : Type 0 where
@@ -63,12 +64,12 @@ module _ {V : Type 0} (told : V → Option Disk) (may_leave : V → Disk → Typ
     pub images : (start.told ≡ words) × (start.heads ≡ heads) × (start.synced ≡ synced)
     pub placed : IsPlaced start
     pub batches : List (List Record)
-    pub begins : BeginsAt told may_leave faults start batches (start_point start) gs y v
+    pub begins : BeginsAt g.told g.may_leave g.faults start batches (start_point start) gs y v
 
   abbrev pub RestartBegins : Type 0
   RestartBegins =
-      (limit : ℕ) (fs : Disk) (F : Files) (gs : List RegionState) (y : Served) (v : Vaulted V) → IsFresh limit gs y v → IsWholeCore told gs y.state v
-      → BeginsRun told may_leave faults limit fs gs y.state v → Spells fs F → FindsIt F
+      (limit : ℕ) (fs : Disk) (F : Files) (gs : List RegionState) (y : Served) (v : Vaulted V) → IsFresh limit gs y v → IsWholeCore g.told gs y.state v
+      → BeginsRun g.told g.may_leave g.faults limit fs gs y.state v → Spells fs F → FindsIt F
       → (words : Told) (heads : Side → Head) (synced : Side → Bool)
       → RestartedAt F limit gs y.state v words heads synced
 
@@ -76,12 +77,12 @@ module _ {V : Type 0} (told : V → Option Disk) (may_leave : V → Disk → Typ
   abbrev pub RoundBegins : Type 0
   RoundBegins =
       (precheck : Bool) (s : Start) (p : Point) (blocks : List Blocks) (lines : List (List Said)) (receipts : List (List ℕ)) (hs : List RegionState) (z : SystemState) (u : Vaulted V)
-      → (led : RoundLeads told may_leave faults precheck true s p blocks lines receipts hs z u)
-      → BeginsAt told may_leave faults s led.batches led.to hs z u
+      → (led : RoundLeads g.told g.may_leave g.faults precheck true s p blocks lines receipts hs z u)
+      → BeginsAt g.told g.may_leave g.faults s led.batches led.to hs z u
 
   abbrev pub AreRounds : List RegionState → SystemState → Vaulted V → List (Round V) → List RegionState → SystemState → Vaulted V → Type 0
   AreRounds gs y v [] hs z u = (hs ≡ gs) × (z ≡ y) × (u ≡ v)
-  AreRounds gs y v (r ∷ rs) hs z u = RoundGoes told may_leave faults r.precheck r.blocks gs y v Done r.transcripts r.regions r.system r.vault × AreRounds r.regions r.system r.vault rs hs z u
+  AreRounds gs y v (r ∷ rs) hs z u = RoundGoes g.told g.may_leave g.faults r.precheck r.blocks gs y v Done r.transcripts r.regions r.system r.vault × AreRounds r.regions r.system r.vault rs hs z u
 
   -- the run goes on from p to where a round may begin
   pub record LedOn (s : Start) (p : Point) (hs : List RegionState) (z : SystemState) (u : Vaulted V) : Type 0 where
@@ -89,17 +90,17 @@ module _ {V : Type 0} (told : V → Option Disk) (may_leave : V → Disk → Typ
     pub batches : List (List Record)
     pub steps : List StoreStep
     pub course : IsPointCourse p steps to
-    pub begins : BeginsAt told may_leave faults s batches to hs z u
+    pub begins : BeginsAt g.told g.may_leave g.faults s batches to hs z u
 
   abbrev pub RoundsBegin : Type 0
   RoundsBegin =
       (s : Start) (B : List (List Record)) (p : Point) (gs hs : List RegionState) (y z : SystemState) (v u : Vaulted V) (rs : List (Round V))
-      → BeginsAt told may_leave faults s B p gs y v → AreRounds gs y v rs hs z u
+      → BeginsAt g.told g.may_leave g.faults s B p gs y v → AreRounds gs y v rs hs z u
       → LedOn s p hs z u
 
   -- ---- a crash
   abbrev pub CrashRestarts : Type 0
   CrashRestarts =
       (s : Start) (B : List (List Record)) (p : Point) (gs : List RegionState) (y : SystemState) (v : Vaulted V)
-      → StandsAt told may_leave faults s B p gs y v → IsPlaced s → NoneMissed p.core
-      → IfSome (told v.store) (λ _. AllSpell (may_leave v.store) (λ F. FindsIt F × EachRestart F (AnswersRight s.log p.core F)))
+      → StandsAt g.told g.may_leave g.faults s B p gs y v → IsPlaced s → NoneMissed p.core
+      → IfSome (g.told v.store) (λ _. AllSpell (g.may_leave v.store) (λ F. FindsIt F × EachRestart F (AnswersRight s.log p.core F)))

@@ -25,8 +25,10 @@ use Rattle.dali_run.specs.Halts.{last_line}
 use Rattle.dali_run.specs.Scripts.{Spells, SpellsNone, RanWhole, StoppedIn, CutIn}
 use Rattle.dali_script.specs.declared.commands.Command.{Command}
 use Rattle.dali_store.specs.Faults.{Rose}
-use Rattle.dali_store.specs.Store.{Files}
+use Rattle.dali_store.specs.declared.store.Store.{Ghosts}
 use Rattle.dali_streams.specs.Streams.{ReadTooMany, Appends, AppendsSome}
+use Rattle.dali_streams.specs.declared.streams.Sink.{Ghosts as SinkGhosts}
+use Rattle.dali_streams.specs.declared.streams.Source.{Ghosts as SourceGhosts}
 
 abbrev pub LastLine : Option (List ℕ) → Status → Option (List ℕ) → ℕ → ℕ → Type 0
 LastLine before status after faults faults' = (Appends before (last_line status) after × (faults' ≡ faults)) ⊎ (AppendsSome before (last_line status) after × Rose faults faults')
@@ -44,16 +46,16 @@ pub record Course (V : Type 0) : Type 0 where
   pub store : V
   pub store' : V
 
-abbrev pub course : {S K V : Type 0} → (S → Option (List ℕ)) → (S → ℕ) → (K → Option (List ℕ)) → (K → ℕ) → S → S → K → K → V → V → Course V
-course left read_faults taken write_faults source source' sink sink' store store' = record {
-  left = left source;
-  left' = left source';
-  read_faults = read_faults source;
-  read_faults' = read_faults source';
-  taken = taken sink;
-  taken' = taken sink';
-  write_faults = write_faults sink;
-  write_faults' = write_faults sink';
+abbrev pub course : {S K V : Type 0} → SourceGhosts S → SinkGhosts K → S → S → K → K → V → V → Course V
+course s k source source' sink sink' store store' = record {
+  left = s.left source;
+  left' = s.left source';
+  read_faults = s.faults source;
+  read_faults' = s.faults source';
+  taken = k.taken sink;
+  taken' = k.taken sink';
+  write_faults = k.faults sink;
+  write_faults' = k.faults sink';
   store = store;
   store' = store';
 }
@@ -79,21 +81,21 @@ module _ {V : Type 0} where
   abbrev pub TellsSome : Course V → Option (List ℕ) → ℕ → List ℕ → Type 0
   TellsSome c mid count text = Unread c × AppendsSome c.taken text mid × Rose c.write_faults count
 
-module _ {V : Type 0} (told : V → Option Files) (may_leave : V → Files → Type 0) (moment : V → ℕ) (left_since : V → ℕ → Files → Type 0) (faults : V → ℕ) (limit : ℕ) (cuts : V → ℕ → Option Files) (precheck : Bool) where
+module _ {V : Type 0} (g : Ghosts V) (limit : ℕ) (precheck : Bool) where
   -- a script was read, and run to where P says
   abbrev pub WithScript : Course V → (List Command → Type 0) → Type 0
   WithScript c P = (script : List Command) × Spells c.left script c.left' × P script
 
   -- a script was read, and a command of it ended the run with this
   abbrev pub HasStopped : Halt → Course V → Option (List ℕ) → Type 0
-  HasStopped halt c mid = WithScript c (λ script. StoppedIn told may_leave moment left_since faults limit cuts precheck halt c.store script c.taken mid c.store')
+  HasStopped halt c mid = WithScript c (λ script. StoppedIn g limit precheck halt c.store script c.taken mid c.store')
 
   abbrev pub EndedScript : Course V → Option (List ℕ) → ℕ → Status → Type 0
-  EndedScript c mid count Done = WithScript c (λ script. RanWhole told may_leave moment left_since faults limit cuts precheck c.store script c.taken mid c.store')
+  EndedScript c mid count Done = WithScript c (λ script. RanWhole g limit precheck c.store script c.taken mid c.store')
   EndedScript c mid count (BadScript line kind) = SpellsNone c.left line kind c.left' × Untouched c mid
   EndedScript c mid count TooLong = ReadTooMany c.left 1048576 c.left' × Untouched c mid
   EndedScript c mid count ReadFault = Rose c.read_faults c.read_faults' × Untouched c mid
-  EndedScript c mid count WriteFault = Rose c.write_faults count × WithScript c (λ script. CutIn told may_leave moment left_since faults limit cuts precheck c.store script c.taken mid c.store')
+  EndedScript c mid count WriteFault = Rose c.write_faults count × WithScript c (λ script. CutIn g limit precheck c.store script c.taken mid c.store')
   EndedScript c mid count StoreFault = HasStopped halts.StoreFault c mid
   EndedScript c mid count (BadStore file at) = HasStopped (halts.BadStore file at) c mid
   EndedScript c mid count Unformatted = HasStopped halts.Unformatted c mid
@@ -103,23 +105,23 @@ module _ {V : Type 0} (told : V → Option Files) (may_leave : V → Files → T
   EndedScript c mid count BadWords = ⊥
   EndedScript c mid count (LogFull end most) = ⊥
 
-module _ {V : Type 0} (told : V → Option Files) (may_leave : V → Files → Type 0) (moment : V → ℕ) (left_since : V → ℕ → Files → Type 0) (faults : V → ℕ) (cuts : V → ℕ → Option Files) where
+module _ {V : Type 0} (g : Ghosts V) where
   -- the log has the room that it has where nothing is said
   module _ (clients size number : ℕ) where
     abbrev pub Generates : V → List ℕ → V → Type 0
-    Generates = Summarizes told may_leave moment left_since faults 67108864 clients size number cuts
+    Generates = Summarizes g 67108864 clients size number
 
     abbrev pub GeneratorStops : Halt → V → V → Type 0
-    GeneratorStops = EndedBy told may_leave moment left_since faults 67108864 clients size number cuts
+    GeneratorStops = EndedBy g 67108864 clients size number
 
     abbrev pub GeneratorIsRefused : Halt → V → V → Type 0
-    GeneratorIsRefused = RefusedIn told may_leave moment left_since faults 67108864 clients size number
+    GeneratorIsRefused = RefusedIn g 67108864 clients size number
 
     abbrev pub FindsNone : V → V → Type 0
-    FindsNone = NotFound told may_leave moment left_since faults 67108864 clients size number cuts
+    FindsNone = NotFound g 67108864 clients size number
 
     abbrev pub GeneratorFinds : V → Core (Fuse V) → Type 0
-    GeneratorFinds = IsFound told may_leave moment left_since faults 67108864 clients size number cuts
+    GeneratorFinds = IsFound g 67108864 clients size number
 
     -- it was run to its end, and the store stood so behind it
     abbrev pub FindsLast : V → V → Type 0
@@ -130,7 +132,7 @@ module _ {V : Type 0} (told : V → Option Files) (may_leave : V → Files → T
     GeneratorFails start end = GeneratorStops halts.StoreFault start end ⊎ (GeneratorIsRefused halts.StoreFault start end ⊎ FindsNone start end)
 
     abbrev pub GeneratorLoses : V → V → Type 0
-    GeneratorLoses = IsLost told may_leave moment left_since faults 67108864 clients size number
+    GeneratorLoses = IsLost g 67108864 clients size number
 
     -- nothing was done yet, or a command had no memory, or damage stopped the round, or the summary had no memory
     abbrev pub GeneratorWants : V → V → Type 0
@@ -148,12 +150,12 @@ module _ {V : Type 0} (told : V → Option Files) (may_leave : V → Files → T
     EndedGenerator c mid count _ = ⊥
 
   abbrev pub EndedDump : Course V → Option (List ℕ) → ℕ → Status → Type 0
-  EndedDump c mid count Done = (text : List ℕ) × Dumps told may_leave moment left_since faults c.store text c.store' × Tells c mid text
-  EndedDump c mid count WriteFault = (text : List ℕ) × Dumps told may_leave moment left_since faults c.store text c.store' × TellsSome c mid count text
-  EndedDump c mid count StoreFault = NotDumped told may_leave moment left_since faults halts.StoreFault c.store c.store' × Silent c mid
-  EndedDump c mid count (BadStore file at) = NotDumped told may_leave moment left_since faults (halts.BadStore file at) c.store c.store' × Silent c mid
-  EndedDump c mid count Unformatted = NotDumped told may_leave moment left_since faults halts.Unformatted c.store c.store' × Silent c mid
-  EndedDump c mid count OutOfMemory = NotDumped told may_leave moment left_since faults halts.OutOfMemory c.store c.store' × Silent c mid
+  EndedDump c mid count Done = (text : List ℕ) × Dumps g c.store text c.store' × Tells c mid text
+  EndedDump c mid count WriteFault = (text : List ℕ) × Dumps g c.store text c.store' × TellsSome c mid count text
+  EndedDump c mid count StoreFault = NotDumped g halts.StoreFault c.store c.store' × Silent c mid
+  EndedDump c mid count (BadStore file at) = NotDumped g (halts.BadStore file at) c.store c.store' × Silent c mid
+  EndedDump c mid count Unformatted = NotDumped g halts.Unformatted c.store c.store' × Silent c mid
+  EndedDump c mid count OutOfMemory = NotDumped g halts.OutOfMemory c.store c.store' × Silent c mid
   EndedDump c mid count _ = ⊥
 
   -- the words are those of no command
@@ -164,7 +166,7 @@ module _ {V : Type 0} (told : V → Option Files) (may_leave : V → Files → T
 
   abbrev pub Ended : Option Task → Course V → Option (List ℕ) → ℕ → Status → Type 0
   Ended None c mid count status = EndedNone c mid status
-  Ended (Some (Run precheck limit)) c mid count status = EndedScript told may_leave moment left_since faults limit cuts precheck c mid count status
+  Ended (Some (Run precheck limit)) c mid count status = EndedScript g limit precheck c mid count status
   Ended (Some (Generate clients size number)) c mid count status = EndedGenerator clients size number c mid count status
   Ended (Some Dump) c mid count status = EndedDump c mid count status
 

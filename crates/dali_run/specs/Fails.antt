@@ -12,7 +12,7 @@
 --     LooksAtFiles                those that read the files
 --     IsBadFor command fs file at the files are bad at this place, as this command finds
 --     Fails halt command old f    a command that ends the run with this
-use Rattle.std.specs.Prelude.{◌≡◌, ◌⊎◌, ◌<◌, ◌≤◌, ℕ, Bool, true, List, Option, IfSome, map}
+use Rattle.std.specs.Prelude.{◌≡◌, ◌⊎◌, ◌<◌, ◌≤◌, ℕ, Bool, true, List, IfSome, map}
 use Rattle.std.specs.List.{list_any}
 use Rattle.dali_batch.specs.Batch.{IsUnformatted}
 use Rattle.dali_batch.specs.Log.{BadAt}
@@ -29,6 +29,7 @@ use Rattle.dali_store.specs.Faults.{Rose}
 use Rattle.dali_store.specs.Store.{Files}
 use Rattle.dali_store.specs.declared.store.FileName.{FileName}
 use Rattle.dali_store.specs.declared.store.FileName.TheVariants.{Log}
+use Rattle.dali_store.specs.declared.store.Store.{Ghosts}
 use Rattle.dali_transcripts.specs.Words.{Act, Pokes, Audits, Checkpoints}
 use Rattle.dali_transcripts.specs.Transcripts.{Told}
 use Rattle.dali_whole.specs.declared.whole.Core.{Core}
@@ -69,20 +70,20 @@ abbrev pub HaltsWith : RestartError → ℕ → ℕ → Halt → Type 0
 HaltsWith error before now halt =
     ((halt ≡ halt_of_restart error) × (error ≡ Fault → now ≤ before)) ⊎ ((halt ≡ OutOfMemory) × (error ≡ Fault) × (before < now))
 
-module _ {V : Type 0} (told : V → Option Files) (may_leave : V → Files → Type 0) (faults : V → ℕ) where
+module _ {V : Type 0} (g : Ghosts V) where
   -- so the count of the handed-in store rose, or both counts together stand at their type's end
   pub record StoreFails (old f : Fuse V) : Type 0 where
-    pub rose : Rose (faults_in faults old) (faults_in faults f)
+    pub rose : Rose (faults_in g old) (faults_in g f)
     pub none_by_fuse : failed_of f ≤ failed_of old
 
-module _ {V : Type 0} (told : V → Option Files) (may_leave : V → Files → Type 0) (moment : V → ℕ) (left_since : V → ℕ → Files → Type 0) (faults : V → ℕ) (precheck : Bool) where
+module _ {V : Type 0} (g : Ghosts V) (precheck : Bool) where
   pub record Played (blocks : List Told) (c : Core (Fuse V)) (f : Fuse V) : Type 0 where
     pub whole : Bool
     pub transcripts : List Transcribed
     pub core : Core (Fuse V)
-    pub plays : Plays told may_leave faults precheck whole blocks c transcripts core
-    pub longer : IsNoShorter (told_in told) c.vault core.vault
-    pub moments : RightWithin told may_leave moment left_since faults c core
+    pub plays : Plays g precheck whole blocks c transcripts core
+    pub longer : IsNoShorter (told_in g) c.vault core.vault
+    pub moments : RightWithin g c core
     pub store : f ≡ core.vault.store
 
   abbrev pub LostOver : List Told → Core (Fuse V) → Fuse V → Type 0
@@ -95,9 +96,9 @@ module _ {V : Type 0} (told : V → Option Files) (may_leave : V → Files → T
   pub record FailsAlone (act : Act) (c : Core (Fuse V)) (f : Fuse V) : Type 0 where
     pub transcripts : List Transcribed
     pub core : Core (Fuse V)
-    pub plays : Plays told may_leave faults precheck true (alone act) c transcripts core
-    pub longer : IsNoShorter (told_in told) c.vault core.vault
-    pub moments : RightWithin told may_leave moment left_since faults c core
+    pub plays : Plays g precheck true (alone act) c transcripts core
+    pub longer : IsNoShorter (told_in g) c.vault core.vault
+    pub moments : RightWithin g c core
     pub said : list_any says_failure transcripts ≡ true
     pub store : f ≡ core.vault.store
     pub none_by_fuse : failed_of f ≤ failed_of c.vault.store
@@ -115,44 +116,44 @@ module _ {V : Type 0} (told : V → Option Files) (may_leave : V → Files → T
   AloneEndsIn halt act (Up core) f = AloneEnds halt act core f
   AloneEndsIn halt act (Down store) f = (halt ≡ OutOfMemory) × (f ≡ store)
 
-module _ {V : Type 0} (told : V → Option Files) (may_leave : V → Files → Type 0) (moment : V → ℕ) (left_since : V → ℕ → Files → Type 0) (faults : V → ℕ) where
+module _ {V : Type 0} (g : Ghosts V) where
   -- how a comparison with a replay ends a run: the store was only read
   abbrev pub FailsComparison : Halt → Core (Fuse V) → Fuse V → Type 0
   FailsComparison StoreFault c f =
-      StoreFails told may_leave faults c.vault.store f × OnlyReads (told_in told) (moment_in moment) (since_in left_since) (leaves_in may_leave) c.vault.store f
+      StoreFails g c.vault.store f × OnlyReads (told_in g) (moment_in g) (since_in g) (leaves_in g) c.vault.store f
   FailsComparison (BadStore file at) c f =
-      IfSome (told_in told c.vault.store) (λ fs. (file ≡ Log) × BadAt fs.log at) × OnlyReads (told_in told) (moment_in moment) (since_in left_since) (leaves_in may_leave) c.vault.store f
-      × (faults_in faults f ≡ faults_in faults c.vault.store)
+      IfSome (told_in g c.vault.store) (λ fs. (file ≡ Log) × BadAt fs.log at) × OnlyReads (told_in g) (moment_in g) (since_in g) (leaves_in g) c.vault.store f
+      × (faults_in g f ≡ faults_in g c.vault.store)
   FailsComparison OutOfMemory c f =
-      OnlyReads (told_in told) (moment_in moment) (since_in left_since) (leaves_in may_leave) c.vault.store f
-      × (failed_of f ≤ failed_of c.vault.store → faults_in faults f ≡ faults_in faults c.vault.store)
+      OnlyReads (told_in g) (moment_in g) (since_in g) (leaves_in g) c.vault.store f
+      × (failed_of f ≤ failed_of c.vault.store → faults_in g f ≡ faults_in g c.vault.store)
   FailsComparison _ c f = ⊥
 
-module _ {V : Type 0} (told : V → Option Files) (may_leave : V → Files → Type 0) (moment : V → ℕ) (left_since : V → ℕ → Files → Type 0) (faults : V → ℕ) (precheck : Bool) where
+module _ {V : Type 0} (g : Ghosts V) (precheck : Bool) where
   abbrev pub KeepsCount : Fuse V → Fuse V → Type 0
-  KeepsCount old f = faults_in faults f ≡ faults_in faults old
+  KeepsCount old f = faults_in g f ≡ faults_in g old
 
   -- unless the fuse failed a call
   abbrev pub HidesNone : Fuse V → Fuse V → Type 0
   HidesNone old f = failed_of f ≤ failed_of old → KeepsCount old f
 
   abbrev pub OnlyRead : Fuse V → Fuse V → Type 0
-  OnlyRead old f = OnlyReads (told_in told) (moment_in moment) (since_in left_since) (leaves_in may_leave) old f
+  OnlyRead old f = OnlyReads (told_in g) (moment_in g) (since_in g) (leaves_in g) old f
 
   abbrev pub Breaks : Command → Program V → Fuse V → Type 0
   -- memory for a database is taken behind the look at the log, and before a write
   Breaks (Size index heap) old f =
-      Makes told may_leave moment left_since faults index heap (store_of old) f
+      Makes g index heap (store_of old) f
       × KeepsCount (store_of old) f
       × OnlyRead (store_of old) f
-      × IfSome (told_in told (store_of old)) (λ fs. IsUnformatted fs.log)
-  Breaks Open old f = Rereads told may_leave moment left_since faults (store_of old) f × HidesNone (store_of old) f
-  Breaks Restart old f = Rereads told may_leave moment left_since faults (store_of old) f × HidesNone (store_of old) f
-  Breaks (Round blocks) old f = Lost told may_leave moment left_since faults precheck (map told_by blocks) old f
-  Breaks (Poke region word mask) old f = Lost told may_leave moment left_since faults precheck (alone (Pokes region word mask)) old f
-  Breaks Audit old f = Lost told may_leave moment left_since faults precheck (alone Audits) old f
-  Breaks Checkpoint old f = Lost told may_leave moment left_since faults precheck (alone Checkpoints) old f
-  Breaks (Crash choice) old f = LeavesLess told may_leave moment left_since (inner (store_of old)) (inner f) × (faults (inner f) ≡ faults (inner (store_of old)))
+      × IfSome (told_in g (store_of old)) (λ fs. IsUnformatted fs.log)
+  Breaks Open old f = Rereads g (store_of old) f × HidesNone (store_of old) f
+  Breaks Restart old f = Rereads g (store_of old) f × HidesNone (store_of old) f
+  Breaks (Round blocks) old f = Lost g precheck (map told_by blocks) old f
+  Breaks (Poke region word mask) old f = Lost g precheck (alone (Pokes region word mask)) old f
+  Breaks Audit old f = Lost g precheck (alone Audits) old f
+  Breaks Checkpoint old f = Lost g precheck (alone Checkpoints) old f
+  Breaks (Crash choice) old f = LeavesLess g (inner (store_of old)) (inner f) × (g.faults (inner f) ≡ g.faults (inner (store_of old)))
   Breaks (SetFuse passes) old f = inner f ≡ inner (store_of old)
   Breaks Verify old f = OnlyRead (store_of old) f × HidesNone (store_of old) f
   Breaks Next old f = ⊥
@@ -160,24 +161,24 @@ module _ {V : Type 0} (told : V → Option Files) (may_leave : V → Files → T
 
   abbrev pub StoreFailsIn : Command → Program V → Fuse V → Type 0
   StoreFailsIn (Size index heap) old f =
-      Rose (faults_in faults (store_of old)) (faults_in faults f) × Makes told may_leave moment left_since faults index heap (store_of old) f
-  StoreFailsIn Open old f = StoreFails told may_leave faults (store_of old) f × Rereads told may_leave moment left_since faults (store_of old) f
-  StoreFailsIn Restart old f = StoreFails told may_leave faults (store_of old) f × Rereads told may_leave moment left_since faults (store_of old) f
-  StoreFailsIn (Poke region word mask) old f = AloneFails told may_leave moment left_since faults precheck (Pokes region word mask) old f
-  StoreFailsIn Audit old f = AloneFails told may_leave moment left_since faults precheck Audits old f
-  StoreFailsIn Checkpoint old f = AloneFails told may_leave moment left_since faults precheck Checkpoints old f
-  StoreFailsIn Verify old f = StoreFails told may_leave faults (store_of old) f × OnlyRead (store_of old) f
+      Rose (faults_in g (store_of old)) (faults_in g f) × Makes g index heap (store_of old) f
+  StoreFailsIn Open old f = StoreFails g (store_of old) f × Rereads g (store_of old) f
+  StoreFailsIn Restart old f = StoreFails g (store_of old) f × Rereads g (store_of old) f
+  StoreFailsIn (Poke region word mask) old f = AloneFails g precheck (Pokes region word mask) old f
+  StoreFailsIn Audit old f = AloneFails g precheck Audits old f
+  StoreFailsIn Checkpoint old f = AloneFails g precheck Checkpoints old f
+  StoreFailsIn Verify old f = StoreFails g (store_of old) f × OnlyRead (store_of old) f
   StoreFailsIn (Crash choice) old f =
-      Rose (faults (inner (store_of old))) (faults (inner f)) × LeavesLess told may_leave moment left_since (inner (store_of old)) (inner f)
+      Rose (g.faults (inner (store_of old))) (g.faults (inner f)) × LeavesLess g (inner (store_of old)) (inner f)
   StoreFailsIn _ old f = ⊥
 
   abbrev pub Fails : Halt → Command → Program V → Fuse V → Type 0
   Fails StoreFault command old f = StoreFailsIn command old f
   Fails (BadStore file at) command old f =
-      LooksAtFiles command × IfSome (told_in told (store_of old)) (λ fs. IsBadFor command fs file at) × OnlyRead (store_of old) f × KeepsCount (store_of old) f
+      LooksAtFiles command × IfSome (told_in g (store_of old)) (λ fs. IsBadFor command fs file at) × OnlyRead (store_of old) f × KeepsCount (store_of old) f
   Fails Unformatted command old f =
-      Opens command × IfSome (told_in told (store_of old)) (λ fs. IsUnformatted fs.log) × OnlyRead (store_of old) f × KeepsCount (store_of old) f
+      Opens command × IfSome (told_in g (store_of old)) (λ fs. IsUnformatted fs.log) × OnlyRead (store_of old) f × KeepsCount (store_of old) f
   Fails Formatted command old f =
-      IsSize command × IfSome (told_in told (store_of old)) (λ fs. IsUnformatted fs.log → ⊥) × OnlyRead (store_of old) f × KeepsCount (store_of old) f
+      IsSize command × IfSome (told_in g (store_of old)) (λ fs. IsUnformatted fs.log → ⊥) × OnlyRead (store_of old) f × KeepsCount (store_of old) f
   Fails OutOfMemory command old f = Breaks command old f
   Fails _ command old f = ⊥

@@ -22,7 +22,7 @@ use Rattle.dali_memstore.specs.declared.fuse.Fuse.{Fuse}
 use Rattle.dali_round.specs.Leads.{lines_in}
 use Rattle.dali_script.specs.declared.commands.Command.{Command}
 use Rattle.dali_script.specs.declared.commands.Command.TheVariants.{Size, Round, Crash, Restart}
-use Rattle.dali_store.specs.Store.{Files}
+use Rattle.dali_store.specs.declared.store.Store.{Ghosts}
 use Rattle.dali_system.specs.declared.causes.Cause.{Cause}
 use Rattle.dali_system.specs.declared.causes.Cause.TheVariants.{Damage, Store}
 use Rattle.dali_transcripts.specs.Transcripts.{Told}
@@ -73,16 +73,16 @@ sum_of_keys rows = sum_by (λ row. row.key) rows % 18446744073709551616
 abbrev pub script_of : (clients size number : ℕ) → List Command
 script_of clients size number = Size (index_regions clients size) (heap_regions clients size) ∷ Round (generated clients size number) ∷ Crash 0 ∷ Restart ∷ []
 
-module _ {V : Type 0} (told : V → Option Files) (may_leave : V → Files → Type 0) (moment : V → ℕ) (left_since : V → ℕ → Files → Type 0) (faults : V → ℕ) where
+module _ {V : Type 0} (g : Ghosts V) where
   -- the round was run to its end, and ends the run so, or not
   pub record IsRoundOf (blocks : List Told) (made : Core (Fuse V)) (ends : Option Halt) (played : Core (Fuse V)) : Type 0 where
     pub text : List ℕ
-    pub round : RunsRound told may_leave moment left_since faults false blocks made text played
+    pub round : RunsRound g false blocks made text played
     pub is : halt_of_round round.transcripts played.system.state.stop (fails_by_fuse made played) ≡ ends
 
   -- nothing was done of the round, or it was cut
   abbrev pub IsCutRound : List Told → Core (Fuse V) → Fuse V → Type 0
-  IsCutRound blocks made f = (f ≡ made.vault.store) ⊎ ((played : Played told may_leave moment left_since faults false blocks made f) × (played.whole ≡ false))
+  IsCutRound blocks made f = (f ≡ made.vault.store) ⊎ ((played : Played g false blocks made f) × (played.whole ≡ false))
 
   -- what the round left ended the run, or the round had no memory
   abbrev pub RoundStops : List Told → Core (Fuse V) → Halt → V → Type 0
@@ -92,7 +92,7 @@ module _ {V : Type 0} (told : V → Option Files) (may_leave : V → Files → T
 
   pub record FailsIn (halt : Halt) (command : Command) (old : Program V) (end : V) : Type 0 where
     pub last : Fuse V
-    pub fails : Fails told may_leave moment left_since faults false halt command old last
+    pub fails : Fails g false halt command old last
     pub store : inner last ≡ end
 
   module _ (limit : ℕ) where
@@ -100,13 +100,13 @@ module _ {V : Type 0} (told : V → Option Files) (may_leave : V → Files → T
     abbrev pub NotRestarted : Program V → Halt → V → Type 0
     NotRestarted crashed halt end =
         FailsIn halt Restart crashed end
-        ⊎ ((text : List ℕ) × (down : Program V) × RestartStops told may_leave moment left_since faults limit crashed text down × (halt ≡ StoreFault) × (inner (store_of down) ≡ end))
+        ⊎ ((text : List ℕ) × (down : Program V) × RestartStops g limit crashed text down × (halt ≡ StoreFault) × (inner (store_of down) ≡ end))
 
   module _ (limit : ℕ) (clients size : ℕ) where
     pub record IsMade (start : V) (made : Core (Fuse V)) : Type 0 where
       pub first : Program V
       pub down : IsDown first start
-      pub steps : StepsSize told may_leave moment left_since faults limit (index_regions clients size) (heap_regions clients size) first [] (Up made)
+      pub steps : StepsSize g limit (index_regions clients size) (heap_regions clients size) first [] (Up made)
 
     module _ (number : ℕ) where
       pub record IsPlayed (start : V) (ends : Option Halt) : Type 0 where
@@ -126,35 +126,34 @@ module _ {V : Type 0} (told : V → Option Files) (may_leave : V → Files → T
         pub cut : IsCutRound (map told_by (generated clients size number)) made left
         pub store : inner left ≡ end
 
-      module _ (cuts : V → ℕ → Option Files) where
-        pub record IsCrashed (start : V) : Type 0 where
-          pub run : IsPlayed start None
-          pub text : List ℕ
-          pub crashed : Program V
-          pub crash : StepsCrash told may_leave moment left_since faults limit cuts 0 (Up run.played) text crashed
+      pub record IsCrashed (start : V) : Type 0 where
+        pub run : IsPlayed start None
+        pub text : List ℕ
+        pub crashed : Program V
+        pub crash : StepsCrash g limit 0 (Up run.played) text crashed
 
-        pub record IsFound (start : V) (found : Core (Fuse V)) : Type 0 where
-          pub run : IsCrashed start
-          pub text : List ℕ
-          pub restart : Restarts told may_leave moment left_since faults limit run.crashed text (Up found)
+      pub record IsFound (start : V) (found : Core (Fuse V)) : Type 0 where
+        pub run : IsCrashed start
+        pub text : List ℕ
+        pub restart : Restarts g limit run.crashed text (Up found)
 
-        pub record NotFound (start end : V) : Type 0 where
-          pub run : IsCrashed start
-          pub text : List ℕ
-          pub down : Program V
-          pub restart : RestartStops told may_leave moment left_since faults limit run.crashed text down
-          pub store : inner (store_of down) ≡ end
+      pub record NotFound (start end : V) : Type 0 where
+        pub run : IsCrashed start
+        pub text : List ℕ
+        pub down : Program V
+        pub restart : RestartStops g limit run.crashed text down
+        pub store : inner (store_of down) ≡ end
 
-        pub record Summarizes (start : V) (text : List ℕ) (end : V) : Type 0 where
-          pub found : Core (Fuse V)
-          pub run : IsFound start found
-          pub store : inner found.vault.store ≡ end
-          pub rows : List Listed
-          pub listing : IsListing found.system.state.sizes (in_memory found.regions.items) rows
-          pub printed : text ≡ summary_of clients size (length rows) (sum_of_keys rows)
+      pub record Summarizes (start : V) (text : List ℕ) (end : V) : Type 0 where
+        pub found : Core (Fuse V)
+        pub run : IsFound start found
+        pub store : inner found.vault.store ≡ end
+        pub rows : List Listed
+        pub listing : IsListing found.system.state.sizes (in_memory found.regions.items) rows
+        pub printed : text ≡ summary_of clients size (length rows) (sum_of_keys rows)
 
-        abbrev pub EndedBy : Halt → V → V → Type 0
-        EndedBy halt start end =
-            ((first : Program V) × IsDown first start × FailsIn halt (Size (index_regions clients size) (heap_regions clients size)) first end)
-            ⊎ (((run : IsPlayed start None) × FailsIn halt (Crash 0) (Up run.played) end)
-            ⊎ ((run : IsCrashed start) × FailsIn halt Restart run.crashed end))
+      abbrev pub EndedBy : Halt → V → V → Type 0
+      EndedBy halt start end =
+          ((first : Program V) × IsDown first start × FailsIn halt (Size (index_regions clients size) (heap_regions clients size)) first end)
+          ⊎ (((run : IsPlayed start None) × FailsIn halt (Crash 0) (Up run.played) end)
+          ⊎ ((run : IsCrashed start) × FailsIn halt Restart run.crashed end))

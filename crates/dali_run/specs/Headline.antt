@@ -52,6 +52,7 @@ use Rattle.dali_round.specs.Moments.{EndsRight, IsRightBetween}
 use Rattle.dali_script.specs.declared.commands.Command.{Command}
 use Rattle.dali_script.specs.declared.commands.Command.TheVariants.{Size, Open, Round, Poke, Audit, Checkpoint, Restart}
 use Rattle.dali_store.specs.Store.{Files as Disk}
+use Rattle.dali_store.specs.declared.store.Store.{Ghosts}
 use Rattle.dali_system.specs.Crashes.{NoneEscapes}
 use Rattle.dali_system.specs.Run.{log_in}
 use Rattle.dali_traces.specs.Disks.{Spells}
@@ -106,46 +107,44 @@ pub record HasKept (kept : List ℕ) (c : Disk) : Type 0 where
 abbrev pub Keeps : List ℕ → Disk → Type 0
 Keeps kept c = (IsUnformatted c.log × (kept ≡ [])) ⊎ HasKept kept c
 
-module _ {V : Type 0} (may_leave : V → Disk → Type 0) where
+module _ {V : Type 0} (g : Ghosts V) where
   abbrev pub KeepsLeft : List ℕ → V → Type 0
-  KeepsLeft kept s = (c : Disk) → may_leave s c → Keeps kept c
+  KeepsLeft kept s = (c : Disk) → g.may_leave s c → Keeps kept c
 
   abbrev pub KeepsWhere : (Disk → Type 0) → List ℕ → V → Type 0
-  KeepsWhere P kept s = (c : Disk) → may_leave s c → P c → Keeps kept c
+  KeepsWhere P kept s = (c : Disk) → g.may_leave s c → P c → Keeps kept c
 
   abbrev pub KeptAt : (Disk → Type 0) → List ℕ → Program V → Type 0
   KeptAt Safe kept p = KeepsWhere (NoneEscapesIn Safe p) kept (inner (store_of p))
 
--- ---- within a command
-module _ {V : Type 0} (moment : V → ℕ) (left_since : V → ℕ → Disk → Type 0) where
+  -- ---- within a command
   abbrev pub KeepsWithin : (Disk → Type 0) → List ℕ → Program V → Fuse V → Type 0
-  KeepsWithin P kept old f = (c : Disk) → left_since (inner f) (moment (inner (store_of old))) c → P c → Keeps kept c
+  KeepsWithin P kept old f = (c : Disk) → g.left_since (inner f) (g.moment (inner (store_of old))) c → P c → Keeps kept c
 
-module _ {V : Type 0} (told : V → Option Disk) (may_leave : V → Disk → Type 0) (moment : V → ℕ) (left_since : V → ℕ → Disk → Type 0) (faults : V → ℕ) where
   -- the premise is asked of memory where the files came from
   pub record KeepsBetween (kept : List ℕ) (c d : Core (Fuse V)) : Type 0 where
     pub base : List Record
-    pub at : IsPointOf told may_leave faults base c
-    pub ends : EndsRight (told_in told) (moment_in moment) (since_in left_since) at.start at.point c.vault d.regions.items d.system.state d.vault
-    pub keeps : (disk : Disk) → left_since (inner d.vault.store) (moment (inner c.vault.store)) disk
+    pub at : IsPointOf g base c
+    pub ends : EndsRight (told_in g) (moment_in g) (since_in g) at.start at.point c.vault d.regions.items d.system.state d.vault
+    pub keeps : (disk : Disk) → g.left_since (inner d.vault.store) (g.moment (inner c.vault.store)) disk
         → (E : Files) × Spells disk E × (is : IsRightBetween at.start at.point ends.to E) × (NoneEscapes (last_epoch (log_in E)) is.between.core → Keeps kept disk)
 
-module _ {V : Type 0} (told : V → Option Disk) (may_leave : V → Disk → Type 0) (moment : V → ℕ) (left_since : V → ℕ → Disk → Type 0) (faults : V → ℕ) (limit : ℕ) (cuts : V → ℕ → Option Disk) (precheck : Bool) where
+module _ {V : Type 0} (g : Ghosts V) (limit : ℕ) (precheck : Bool) where
   -- in the making and the finding of a database: of files that might have been left before it, or of those as they read too
   abbrev pub SafeWithin : (Disk → Type 0) → Command → Program V → Disk → Type 0
-  SafeWithin Safe (Size index heap) old = NoneEscapesMaking told may_leave Safe old
-  SafeWithin Safe Open old = NoneEscapesMaking told may_leave Safe old
-  SafeWithin Safe Restart old = NoneEscapesMaking told may_leave Safe old
+  SafeWithin Safe (Size index heap) old = NoneEscapesMaking g Safe old
+  SafeWithin Safe Open old = NoneEscapesMaking g Safe old
+  SafeWithin Safe Restart old = NoneEscapesMaking g Safe old
   SafeWithin Safe _ old = NoneEscapesIn Safe old
 
   abbrev pub Within : (Disk → Type 0) → List ℕ → Command → Program V → Fuse V → Type 0
-  Within Safe kept command old f = KeepsWithin moment left_since (SafeWithin Safe command old) kept old f
+  Within Safe kept command old f = KeepsWithin g (SafeWithin Safe command old) kept old f
 
   abbrev pub Between : List ℕ → Core (Fuse V) → Core (Fuse V) → Type 0
-  Between kept c d = KeepsBetween told may_leave moment left_since faults kept c d
+  Between kept c d = KeepsBetween g kept c d
 
   abbrev pub KeptWithin : (Safe : Disk → Type 0) (kept : List ℕ) (command : Command) (old : Program V) (text : List ℕ) (new : Program V)
-      → Steps told may_leave moment left_since faults limit cuts precheck old command text new → Type 0
+      → Steps g limit precheck old command text new → Type 0
   KeptWithin Safe kept (Round blocks) (Up core) text new step = Between kept core step.0
   KeptWithin Safe kept (Poke region word mask) (Up core) text new step = Between kept core step.0
   KeptWithin Safe kept Audit (Up core) text new step = Between kept core step.0
@@ -153,83 +152,82 @@ module _ {V : Type 0} (told : V → Option Disk) (may_leave : V → Disk → Typ
   KeptWithin Safe kept command old text new step = Within Safe kept command old (store_of new)
 
   -- where a round was cut, or the store failed in one of one client
-  abbrev pub KeptLost : (Safe : Disk → Type 0) (kept : List ℕ) (blocks : List Told) (old : Program V) (f : Fuse V) → Lost told may_leave moment left_since faults precheck blocks old f → Type 0
-  KeptLost Safe kept blocks (Up core) f (inl none) = KeepsWithin moment left_since (NoneEscapesFrom core) kept (Up core) f
+  abbrev pub KeptLost : (Safe : Disk → Type 0) (kept : List ℕ) (blocks : List Told) (old : Program V) (f : Fuse V) → Lost g precheck blocks old f → Type 0
+  KeptLost Safe kept blocks (Up core) f (inl none) = KeepsWithin g (NoneEscapesFrom core) kept (Up core) f
   KeptLost Safe kept blocks (Up core) f (inr played) = Between kept core played.core
-  KeptLost Safe kept blocks (Down store) f lost = KeepsWithin moment left_since Safe kept (Down store) f
+  KeptLost Safe kept blocks (Down store) f lost = KeepsWithin g Safe kept (Down store) f
 
-  abbrev pub KeptBroken : (Safe : Disk → Type 0) (kept : List ℕ) (command : Command) (old : Program V) (f : Fuse V) → Breaks told may_leave moment left_since faults precheck command old f → Type 0
+  abbrev pub KeptBroken : (Safe : Disk → Type 0) (kept : List ℕ) (command : Command) (old : Program V) (f : Fuse V) → Breaks g precheck command old f → Type 0
   KeptBroken Safe kept (Round blocks) old f breaks = KeptLost Safe kept (map told_by blocks) old f breaks
   KeptBroken Safe kept (Poke region word mask) old f breaks = KeptLost Safe kept (alone (Pokes region word mask)) old f breaks
   KeptBroken Safe kept Audit old f breaks = KeptLost Safe kept (alone Audits) old f breaks
   KeptBroken Safe kept Checkpoint old f breaks = KeptLost Safe kept (alone Checkpoints) old f breaks
   KeptBroken Safe kept command old f breaks = Within Safe kept command old f
 
-  abbrev pub KeptAlone : (kept : List ℕ) (act : Act) (old : Program V) (f : Fuse V) → AloneFails told may_leave moment left_since faults precheck act old f → Type 0
+  abbrev pub KeptAlone : (kept : List ℕ) (act : Act) (old : Program V) (f : Fuse V) → AloneFails g precheck act old f → Type 0
   KeptAlone kept act (Up core) f fails = Between kept core fails.core
   KeptAlone kept act (Down store) f fails = Unit {0}
 
-  abbrev pub KeptFailed : (Safe : Disk → Type 0) (kept : List ℕ) (command : Command) (old : Program V) (f : Fuse V) → StoreFailsIn told may_leave moment left_since faults precheck command old f → Type 0
+  abbrev pub KeptFailed : (Safe : Disk → Type 0) (kept : List ℕ) (command : Command) (old : Program V) (f : Fuse V) → StoreFailsIn g precheck command old f → Type 0
   KeptFailed Safe kept (Poke region word mask) old f fails = KeptAlone kept (Pokes region word mask) old f fails
   KeptFailed Safe kept Audit old f fails = KeptAlone kept Audits old f fails
   KeptFailed Safe kept Checkpoint old f fails = KeptAlone kept Checkpoints old f fails
   KeptFailed Safe kept command old f fails = Within Safe kept command old f
 
-  abbrev pub KeptFailing : (Safe : Disk → Type 0) (kept : List ℕ) (halt : Halt) (command : Command) (old : Program V) (f : Fuse V)
-      → Fails told may_leave moment left_since faults precheck halt command old f → Type 0
+  abbrev pub KeptFailing : (Safe : Disk → Type 0) (kept : List ℕ) (halt : Halt) (command : Command) (old : Program V) (f : Fuse V) → Fails g precheck halt command old f → Type 0
   KeptFailing Safe kept halts.StoreFault command old f fails = KeptFailed Safe kept command old f fails
   KeptFailing Safe kept halts.OutOfMemory command old f fails = KeptBroken Safe kept command old f fails
   KeptFailing Safe kept halt command old f fails = Within Safe kept command old f
 
-  abbrev pub oks_by : (command : Command) (old : Program V) (text : List ℕ) (new : Program V) → Steps told may_leave moment left_since faults limit cuts precheck old command text new → List ℕ
+  abbrev pub oks_by : (command : Command) (old : Program V) (text : List ℕ) (new : Program V) → Steps g limit precheck old command text new → List ℕ
   oks_by (Round blocks) (Up core) text new step = oks_of (map lines_in step.1.transcripts)
   oks_by _ old text new step = []
 
-  abbrev pub Restores : (kept : List ℕ) (old : Program V) (text : List ℕ) (new : Program V) → StepsRestart told may_leave moment left_since faults limit old text new → Type 0
-  Restores kept old text new (inl step) = IfSome (told (inner (store_of old))) (λ fs. (has : HasKept kept fs) × IsAnswer has.files (outcome step.core.regions.items step.report))
+  abbrev pub Restores : (kept : List ℕ) (old : Program V) (text : List ℕ) (new : Program V) → StepsRestart g limit old text new → Type 0
+  Restores kept old text new (inl step) = IfSome (g.told (inner (store_of old))) (λ fs. (has : HasKept kept fs) × IsAnswer has.files (outcome step.core.regions.items step.report))
   Restores kept old text new (inr stops) = Unit {0}
 
-  abbrev pub Answers : (kept : List ℕ) (command : Command) (old : Program V) (text : List ℕ) (new : Program V) → Steps told may_leave moment left_since faults limit cuts precheck old command text new → Type 0
+  abbrev pub Answers : (kept : List ℕ) (command : Command) (old : Program V) (text : List ℕ) (new : Program V) → Steps g limit precheck old command text new → Type 0
   Answers kept Open old text new step = Restores kept old text new step
   Answers kept Restart old text new step = Restores kept old text new step
   Answers kept _ old text new step = Unit {0}
 
   -- ---- along a run
   abbrev pub Along : (Behind : (Disk → Type 0) → List ℕ → Type 0) (Safe : Disk → Type 0) (commands : List Command) (kept : List ℕ) (old : Program V) (text : List ℕ) (new : Program V)
-      → RunsAll told may_leave moment left_since faults limit cuts precheck old commands text new → Type 0
-  Along Behind Safe [] kept old text new runs = KeptAt may_leave Safe kept old × Behind Safe kept
+      → RunsAll g limit precheck old commands text new → Type 0
+  Along Behind Safe [] kept old text new runs = KeptAt g Safe kept old × Behind Safe kept
   Along Behind Safe (command ∷ later) kept old text new runs =
-      KeptAt may_leave Safe kept old × KeptWithin Safe kept command old runs.0 runs.1 runs.3
-      × (NoneEscapesLeft told may_leave moment left_since faults limit cuts precheck Safe command old runs.0 runs.1 runs.3 → Answers kept command old runs.0 runs.1 runs.3
-      × Along Behind (SafeBehind told may_leave moment left_since faults limit cuts precheck Safe command old runs.0 runs.1 runs.3) later (kept ++ oks_by command old runs.0 runs.1 runs.3)
+      KeptAt g Safe kept old × KeptWithin Safe kept command old runs.0 runs.1 runs.3
+      × (NoneEscapesLeft g limit precheck Safe command old runs.0 runs.1 runs.3 → Answers kept command old runs.0 runs.1 runs.3
+      × Along Behind (SafeBehind g limit precheck Safe command old runs.0 runs.1 runs.3) later (kept ++ oks_by command old runs.0 runs.1 runs.3)
       runs.1 runs.2 new runs.4)
 
   -- ---- each way in which a script's run ends
   module _ (c : Course V) (mid : Option (List ℕ)) (count : ℕ) (kept : List ℕ) where
-    abbrev pub StoppedKeeps : (halt : Halt) → HasStopped told may_leave moment left_since faults limit cuts precheck halt c mid → Type 0
+    abbrev pub StoppedKeeps : (halt : Halt) → HasStopped g limit precheck halt c mid → Type 0
     StoppedKeeps halt stopped =
         let stops = stopped.2 in
         Along
         (λ Safe now. KeptFailing Safe now halt stops.command stops.state stops.last stops.fails
-        × KeepsWhere may_leave (NoneEscapesBehind told may_leave moment left_since faults limit cuts precheck Safe halt stops.command stops.state stops.last stops.fails) now c.store')
+        × KeepsWhere g (NoneEscapesBehind g limit precheck Safe halt stops.command stops.state stops.last stops.fails) now c.store')
         AnyFiles (take stops.count stopped.0) kept stops.run.first stops.text stops.state stops.run.runs
 
-    abbrev pub WantingKeeps : Untouched c mid ⊎ HasStopped told may_leave moment left_since faults limit cuts precheck halts.OutOfMemory c mid → Type 0
-    WantingKeeps (inl untouched) = KeepsLeft may_leave kept c.store'
+    abbrev pub WantingKeeps : Untouched c mid ⊎ HasStopped g limit precheck halts.OutOfMemory c mid → Type 0
+    WantingKeeps (inl untouched) = KeepsLeft g kept c.store'
     WantingKeeps (inr stopped) = StoppedKeeps halts.OutOfMemory stopped
 
-    abbrev pub ScriptKeeps : (status : Status) → EndedScript told may_leave moment left_since faults limit cuts precheck c mid count status → Type 0
+    abbrev pub ScriptKeeps : (status : Status) → EndedScript g limit precheck c mid count status → Type 0
     ScriptKeeps Done ended =
         let ran = ended.2 in
-        Along (λ Safe now. KeepsWhere may_leave (NoneEscapesIn Safe ran.state) now c.store') AnyFiles (take (length ended.0) ended.0) kept ran.run.first ran.text ran.state ran.run.runs
+        Along (λ Safe now. KeepsWhere g (NoneEscapesIn Safe ran.state) now c.store') AnyFiles (take (length ended.0) ended.0) kept ran.run.first ran.text ran.state ran.run.runs
     -- all lines of the last command are meant, also those that weren't written
     ScriptKeeps WriteFault ended =
         let cut = ended.1.2 in
         Along
         (λ Safe now. KeptWithin Safe now cut.command cut.earlier cut.more cut.state cut.steps
-        × (NoneEscapesLeft told may_leave moment left_since faults limit cuts precheck Safe cut.command cut.earlier cut.more cut.state cut.steps
+        × (NoneEscapesLeft g limit precheck Safe cut.command cut.earlier cut.more cut.state cut.steps
         → Answers now cut.command cut.earlier cut.more cut.state cut.steps
-        × KeepsWhere may_leave (NoneEscapesIn (SafeBehind told may_leave moment left_since faults limit cuts precheck Safe cut.command cut.earlier cut.more cut.state cut.steps) cut.state)
+        × KeepsWhere g (NoneEscapesIn (SafeBehind g limit precheck Safe cut.command cut.earlier cut.more cut.state cut.steps) cut.state)
         (now ++ oks_by cut.command cut.earlier cut.more cut.state cut.steps) c.store'))
         AnyFiles (take cut.count ended.1.0) kept cut.ran.first cut.text cut.earlier cut.ran.runs
     ScriptKeeps StoreFault ended = StoppedKeeps halts.StoreFault ended
@@ -237,68 +235,68 @@ module _ {V : Type 0} (told : V → Option Disk) (may_leave : V → Disk → Typ
     ScriptKeeps Unformatted ended = StoppedKeeps halts.Unformatted ended
     ScriptKeeps Formatted ended = StoppedKeeps halts.Formatted ended
     ScriptKeeps OutOfMemory ended = WantingKeeps ended
-    ScriptKeeps _ ended = KeepsLeft may_leave kept c.store'
+    ScriptKeeps _ ended = KeepsLeft g kept c.store'
 
-module _ {V : Type 0} (told : V → Option Disk) (may_leave : V → Disk → Type 0) (moment : V → ℕ) (left_since : V → ℕ → Disk → Type 0) (faults : V → ℕ) (cuts : V → ℕ → Option Disk) where
+module _ {V : Type 0} (g : Ghosts V) where
   -- ---- a generated script: nobody pokes in it, so nothing is asked of damage
   abbrev pub KeepsSince : List ℕ → V → V → Type 0
-  KeepsSince kept old new = (c : Disk) → left_since new (moment old) c → Keeps kept c
+  KeepsSince kept old new = (c : Disk) → g.left_since new (g.moment old) c → Keeps kept c
 
   abbrev pub KeepsOn : List ℕ → V → V → Type 0
-  KeepsOn kept old new = KeepsSince kept old new × KeepsLeft may_leave kept new
+  KeepsOn kept old new = KeepsSince kept old new × KeepsLeft g kept new
 
   module _ (clients size number : ℕ) where
     -- its round writes no lines, and those that its clients were told count
-    abbrev pub oks_played : (start : V) (ends : Option Halt) → IsPlayed told may_leave moment left_since faults 67108864 clients size number start ends → List ℕ
+    abbrev pub oks_played : (start : V) (ends : Option Halt) → IsPlayed g 67108864 clients size number start ends → List ℕ
     oks_played start ends run = oks_of (map lines_in run.round.round.transcripts)
 
     module _ (kept : List ℕ) (start : V) where
       -- a database was made, and its round run
-      pub record PlayedKeeps (ends : Option Halt) (run : IsPlayed told may_leave moment left_since faults 67108864 clients size number start ends) : Type 0 where
+      pub record PlayedKeeps (ends : Option Halt) (run : IsPlayed g 67108864 clients size number start ends) : Type 0 where
         pub making : KeepsOn kept start (inner run.made.vault.store)
         pub round : KeepsSince kept (inner run.made.vault.store) (inner run.played.vault.store)
-        pub behind : KeepsLeft may_leave (kept ++ oks_played start ends run) (inner run.played.vault.store)
+        pub behind : KeepsLeft g (kept ++ oks_played start ends run) (inner run.played.vault.store)
 
       -- what was kept behind its round, where that didn't end the run
-      abbrev pub kept_played : IsPlayed told may_leave moment left_since faults 67108864 clients size number start None → List ℕ
+      abbrev pub kept_played : IsPlayed g 67108864 clients size number start None → List ℕ
       kept_played run = kept ++ oks_played start None run
 
-      pub record CrashedKeeps (run : IsCrashed told may_leave moment left_since faults 67108864 clients size number cuts start) : Type 0 where
+      pub record CrashedKeeps (run : IsCrashed g 67108864 clients size number start) : Type 0 where
         pub before : PlayedKeeps None run.run
         pub crash : KeepsOn (kept_played run.run) (inner run.run.played.vault.store) (inner (store_of run.crashed))
 
-      pub record FoundKeeps (found : Core (Fuse V)) (run : GeneratorFinds told may_leave moment left_since faults cuts clients size number start found) : Type 0 where
+      pub record FoundKeeps (found : Core (Fuse V)) (run : GeneratorFinds g clients size number start found) : Type 0 where
         pub before : CrashedKeeps run.run
         pub restart : KeepsOn (kept_played run.run.run) (inner (store_of run.run.crashed)) (inner found.vault.store)
-        pub answers : Restores told may_leave moment left_since faults 67108864 cuts false (kept_played run.run.run) run.run.crashed run.text (Up found) (inl run.restart)
+        pub answers : Restores g 67108864 false (kept_played run.run.run) run.run.crashed run.text (Up found) (inl run.restart)
 
       module _ (end : V) where
         -- ---- each way in which it ends, and the store that comes back
-        abbrev pub LastKeeps : (found : Core (Fuse V)) → GeneratorFinds told may_leave moment left_since faults cuts clients size number start found → Type 0
-        LastKeeps found run = FoundKeeps found run × KeepsLeft may_leave (kept_played run.run.run) end
+        abbrev pub LastKeeps : (found : Core (Fuse V)) → GeneratorFinds g clients size number start found → Type 0
+        LastKeeps found run = FoundKeeps found run × KeepsLeft g (kept_played run.run.run) end
 
         -- a command of it failed, which isn't its round
-        abbrev pub StopKeeps : (halt : Halt) → GeneratorStops told may_leave moment left_since faults cuts clients size number halt start end → Type 0
+        abbrev pub StopKeeps : (halt : Halt) → GeneratorStops g clients size number halt start end → Type 0
         StopKeeps halt (inl first) = KeepsOn kept start end
         StopKeeps halt (inr (inl crash)) = PlayedKeeps None crash.0 × KeepsOn (kept_played crash.0) (inner crash.0.played.vault.store) end
         StopKeeps halt (inr (inr restart)) = CrashedKeeps restart.0 × KeepsOn (kept_played restart.0.run) (inner (store_of restart.0.crashed)) end
 
         -- a line of its round, or what stopped the engine in it, ended the run
-        abbrev pub RefusedKeeps : (halt : Halt) → GeneratorIsRefused told may_leave moment left_since faults cuts clients size number halt start end → Type 0
-        RefusedKeeps halt refused = PlayedKeeps (Some halt) refused.run × KeepsLeft may_leave (kept ++ oks_played start (Some halt) refused.run) end
+        abbrev pub RefusedKeeps : (halt : Halt) → GeneratorIsRefused g clients size number halt start end → Type 0
+        RefusedKeeps halt refused = PlayedKeeps (Some halt) refused.run × KeepsLeft g (kept ++ oks_played start (Some halt) refused.run) end
 
         -- its round had no memory, or was cut
-        abbrev pub LostKeeps : GeneratorLoses told may_leave moment left_since faults cuts clients size number start end → Type 0
+        abbrev pub LostKeeps : GeneratorLoses g clients size number start end → Type 0
         LostKeeps lost = KeepsOn kept start (inner lost.made.vault.store) × KeepsOn kept (inner lost.made.vault.store) end
 
         -- no fuse is set, so none fails a call of the restart
-        abbrev pub FaultKeeps : GeneratorFails told may_leave moment left_since faults cuts clients size number start end → Type 0
+        abbrev pub FaultKeeps : GeneratorFails g clients size number start end → Type 0
         FaultKeeps (inl stops) = StopKeeps halts.StoreFault stops
         FaultKeeps (inr (inl refused)) = RefusedKeeps halts.StoreFault refused
         FaultKeeps (inr (inr none)) = ⊥
 
-        abbrev pub WantKeeps : GeneratorWants told may_leave moment left_since faults cuts clients size number start end → Type 0
-        WantKeeps (inl same) = KeepsLeft may_leave kept end
+        abbrev pub WantKeeps : GeneratorWants g clients size number start end → Type 0
+        WantKeeps (inl same) = KeepsLeft g kept end
         WantKeeps (inr (inl (inl stops))) = StopKeeps halts.OutOfMemory stops
         WantKeeps (inr (inl (inr lost))) = LostKeeps lost
         WantKeeps (inr (inr (inl refused))) = RefusedKeeps halts.OutOfMemory refused
@@ -306,7 +304,7 @@ module _ {V : Type 0} (told : V → Option Disk) (may_leave : V → Disk → Typ
 
     module _ (c : Course V) (mid : Option (List ℕ)) (count : ℕ) (kept : List ℕ) where
       -- with no other status, as files that a database was just made in are found, and never bad
-      abbrev pub GeneratorKeeps : (status : Status) → EndedGenerator told may_leave moment left_since faults cuts clients size number c mid count status → Type 0
+      abbrev pub GeneratorKeeps : (status : Status) → EndedGenerator g clients size number c mid count status → Type 0
       GeneratorKeeps Done ended = LastKeeps kept c.store c.store' ended.1.found ended.1.run
       GeneratorKeeps WriteFault ended = LastKeeps kept c.store c.store' ended.1.found ended.1.run
       GeneratorKeeps StoreFault ended = FaultKeeps kept c.store c.store' ended.0
@@ -316,16 +314,16 @@ module _ {V : Type 0} (told : V → Option Disk) (may_leave : V → Disk → Typ
       GeneratorKeeps _ ended = ⊥
 
   module _ (c : Course V) (mid : Option (List ℕ)) (count : ℕ) (kept : List ℕ) where
-    abbrev pub Kept : (task : Option Task) (status : Status) → Ended told may_leave moment left_since faults cuts task c mid count status → Type 0
-    Kept (Some (Run precheck limit)) status ended = ScriptKeeps told may_leave moment left_since faults limit cuts precheck c mid count kept status ended
+    abbrev pub Kept : (task : Option Task) (status : Status) → Ended g task c mid count status → Type 0
+    Kept (Some (Run precheck limit)) status ended = ScriptKeeps g limit precheck c mid count kept status ended
     Kept (Some (Generate clients size number)) status ended = GeneratorKeeps clients size number c mid count kept status ended
-    Kept _ status ended = KeepsLeft may_leave kept c.store'
+    Kept _ status ended = KeepsLeft g kept c.store'
 
   -- what base has committed is kept from the beginning
   abbrev pub AcknowledgedSurvive : Type 0
   AcknowledgedSurvive =
-      (words : List (List ℕ)) (c : Course V) (status : Status) (base : List Record) → IsOwn told may_leave base c.store
-      → (e : HasEnded told may_leave moment left_since faults cuts words c status) → Kept c e.mid e.count (committed base) (meaning words) status e.ended
+      (words : List (List ℕ)) (c : Course V) (status : Status) (base : List Record) → IsOwn g base c.store
+      → (e : HasEnded g words c status) → Kept c e.mid e.count (committed base) (meaning words) status e.ended
 
 -- ---- an example
 abbrev pub WorkedLinesAcknowledge : Type 0

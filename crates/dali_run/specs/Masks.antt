@@ -35,6 +35,7 @@ use Rattle.dali_script.specs.declared.commands.Command.TheVariants.{Size, Open, 
 use Rattle.dali_script.specs.declared.names.Name.{Name}
 use Rattle.dali_script.specs.declared.names.Name.TheVariants as names
 use Rattle.dali_store.specs.Store.{Files}
+use Rattle.dali_store.specs.declared.store.Store.{Ghosts}
 use Rattle.dali_traces.specs.Disks.{Spells}
 use Rattle.dali_transcripts.specs.Transcripts.{Told}
 use Rattle.dali_transcripts.specs.Words.{Act, Pokes, Audits, Checkpoints, Said, PokeOk, PokeOutOfRange, AuditSaid, CheckpointSaid, CheckpointFailed}
@@ -120,12 +121,12 @@ abbrev pub VerifiesNone : {V : Type 0} → (ℕ → List ℕ) → Program V → 
 VerifiesNone masks (Up core) text = core.system.state.stop ≡ None → IsNone masks → (text ≡ texts (lines.VerifyOk ∷ [])) ⊎ (text ≡ texts (lines.VerifyStoreStopped ∷ []))
 VerifiesNone masks (Down store) text = Unit {0}
 
-module _ {V : Type 0} (told : V → Option Files) (may_leave : V → Files → Type 0) (faults : V → ℕ) where
+module _ {V : Type 0} (g : Ghosts V) where
   pub record ShowsLog (text : List ℕ) (new : Program V) : Type 0 where
     pub core : Core (Fuse V)
     pub up : new ≡ Up core
     pub base : List Record
-    pub at : IsPointOf told may_leave faults base core
+    pub at : IsPointOf g base core
     pub shows : ShowsJust at.point.log text
 
   abbrev pub ShowsNone : (ℕ → List ℕ) → Program V → List ℕ → Program V → Type 0
@@ -133,98 +134,90 @@ module _ {V : Type 0} (told : V → Option Files) (may_leave : V → Files → T
   ShowsNone masks (Down store) text new = Unit {0}
 
 -- the store has files of a log of this program, which they fit
-pub record TellsFound {V : Type 0} (told : V → Option Files) (s : V) : Type 0 where
+pub record TellsFound {V : Type 0} (g : Ghosts V) (s : V) : Type 0 where
   pub disk : Files
-  pub tells : told s ≡ Some disk
+  pub tells : g.told s ≡ Some disk
   pub files : Spelled
   pub spells : Spells disk files
   pub finds : FindsIt files
 
 -- ---- along a run
-module _ {V : Type 0} (told : V → Option Files) (may_leave : V → Files → Type 0) (moment : V → ℕ) (left_since : V → ℕ → Files → Type 0) (faults : V → ℕ) (precheck : Bool) where
-  abbrev pub masks_in_round : (blocks : List Block) (old : Program V) (text : List ℕ) (new : Program V) → StepsRound told may_leave moment left_since faults precheck blocks old text new → ℕ → List ℕ
+module _ {V : Type 0} (g : Ghosts V) (precheck : Bool) where
+  abbrev pub masks_in_round : (blocks : List Block) (old : Program V) (text : List ℕ) (new : Program V) → StepsRound g precheck blocks old text new → ℕ → List ℕ
   masks_in_round blocks (Up core) text new step r = masks_of r (map told_by blocks) (map lines_in step.1.transcripts)
   masks_in_round blocks (Down store) text new step r = []
 
-  abbrev pub masks_alone : (name : Name) (act : Act) (old : Program V) (text : List ℕ) (new : Program V) → StepsAlone told may_leave moment left_since faults precheck name act old text new → ℕ → List ℕ
+  abbrev pub masks_alone : (name : Name) (act : Act) (old : Program V) (text : List ℕ) (new : Program V) → StepsAlone g precheck name act old text new → ℕ → List ℕ
   masks_alone name act (Up core) text new step r = masks_of r (alone act) (map lines_in step.1.transcripts)
   masks_alone name act (Down store) text new step r = []
 
-  abbrev pub NamesTold : (masks : ℕ → List ℕ) (name : Name) (act : Act) (old : Program V) (text : List ℕ) (new : Program V) → StepsAlone told may_leave moment left_since faults precheck name act old text new → Type 0
+  abbrev pub NamesTold : (masks : ℕ → List ℕ) (name : Name) (act : Act) (old : Program V) (text : List ℕ) (new : Program V) → StepsAlone g precheck name act old text new → Type 0
   NamesTold masks name act (Up core) text new step = NamesOf masks (length core.regions.items) (map lines_in step.1.transcripts) text
   NamesTold masks name act (Down store) text new step = Unit {0}
 
-module _ {V : Type 0} (told : V → Option Files) (may_leave : V → Files → Type 0) (moment : V → ℕ) (left_since : V → ℕ → Files → Type 0) (faults : V → ℕ) (limit : ℕ) (cuts : V → ℕ → Option Files) (precheck : Bool) where
+module _ {V : Type 0} (g : Ghosts V) (limit : ℕ) (precheck : Bool) where
   -- a load, and a crash, forget them
-  abbrev pub masks_behind : (command : Command) (old : Program V) (text : List ℕ) (new : Program V) → Steps told may_leave moment left_since faults limit cuts precheck old command text new
-      → (ℕ → List ℕ) → ℕ → List ℕ
+  abbrev pub masks_behind : (command : Command) (old : Program V) (text : List ℕ) (new : Program V) → Steps g limit precheck old command text new → (ℕ → List ℕ) → ℕ → List ℕ
   masks_behind (Size index heap) old text new step before r = []
   masks_behind Open old text new step before r = []
   masks_behind Restart old text new step before r = []
   masks_behind (Crash choice) old text new step before r = []
-  masks_behind (Round blocks) old text new step before r = before r ++ masks_in_round told may_leave moment left_since faults precheck blocks old text new step r
+  masks_behind (Round blocks) old text new step before r = before r ++ masks_in_round g precheck blocks old text new step r
   masks_behind (Poke region word mask) old text new step before r =
-      before r ++ masks_alone told may_leave moment left_since faults precheck names.Poke (Pokes region word mask) old text new step r
+      before r ++ masks_alone g precheck names.Poke (Pokes region word mask) old text new step r
   masks_behind _ old text new step before r = before r
 
-  abbrev pub NamesBy : (command : Command) (masks : ℕ → List ℕ) (old : Program V) (text : List ℕ) (new : Program V)
-      → Steps told may_leave moment left_since faults limit cuts precheck old command text new → Type 0
-  NamesBy Audit masks old text new step = NamesTold told may_leave moment left_since faults precheck masks names.Audit Audits old text new step
-  NamesBy Checkpoint masks old text new step = NamesTold told may_leave moment left_since faults precheck masks names.Checkpoint Checkpoints old text new step
+  abbrev pub NamesBy : (command : Command) (masks : ℕ → List ℕ) (old : Program V) (text : List ℕ) (new : Program V) → Steps g limit precheck old command text new → Type 0
+  NamesBy Audit masks old text new step = NamesTold g precheck masks names.Audit Audits old text new step
+  NamesBy Checkpoint masks old text new step = NamesTold g precheck masks names.Checkpoint Checkpoints old text new step
   NamesBy _ masks old text new step = Unit {0}
 
-  abbrev pub TellsBy : (command : Command) (masks : ℕ → List ℕ) (old : Program V) (text : List ℕ) (new : Program V)
-      → Steps told may_leave moment left_since faults limit cuts precheck old command text new → Type 0
-  TellsBy Show masks old text new step = ShowsNone told may_leave faults masks old text new
+  abbrev pub TellsBy : (command : Command) (masks : ℕ → List ℕ) (old : Program V) (text : List ℕ) (new : Program V) → Steps g limit precheck old command text new → Type 0
+  TellsBy Show masks old text new step = ShowsNone g masks old text new
   TellsBy Verify masks old text new step = VerifiesNone masks old text
   TellsBy command masks old text new step = NamesBy command masks old text new step
 
   -- ---- the files that a restart finds
-  abbrev pub FindsIn : (old : Program V) (text : List ℕ) (new : Program V) → StepsRestart told may_leave moment left_since faults limit old text new → Type 0
-  FindsIn old text new (inl step) = TellsFound told (inner (store_of old))
+  abbrev pub FindsIn : (old : Program V) (text : List ℕ) (new : Program V) → StepsRestart g limit old text new → Type 0
+  FindsIn old text new (inl step) = TellsFound g (inner (store_of old))
   FindsIn old text new (inr stops) = Unit {0}
 
-  abbrev pub FindsFiles : (command : Command) (old : Program V) (text : List ℕ) (new : Program V)
-      → Steps told may_leave moment left_since faults limit cuts precheck old command text new → Type 0
+  abbrev pub FindsFiles : (command : Command) (old : Program V) (text : List ℕ) (new : Program V) → Steps g limit precheck old command text new → Type 0
   FindsFiles Open old text new step = FindsIn old text new step
   FindsFiles Restart old text new step = FindsIn old text new step
   FindsFiles _ old text new step = Unit {0}
 
-  abbrev pub AllNamed : (commands : List Command) (masks : ℕ → List ℕ) (old : Program V) (text : List ℕ) (new : Program V)
-      → RunsAll told may_leave moment left_since faults limit cuts precheck old commands text new → Type 0
+  abbrev pub AllNamed : (commands : List Command) (masks : ℕ → List ℕ) (old : Program V) (text : List ℕ) (new : Program V) → RunsAll g limit precheck old commands text new → Type 0
   AllNamed [] masks old text new runs = AreTold masks old
   AllNamed (command ∷ later) masks old text new runs =
       AreTold masks old
       × (FindsFiles command old runs.0 runs.1 runs.3 → NamesBy command masks old runs.0 runs.1 runs.3
       × AllNamed later (masks_behind command old runs.0 runs.1 runs.3 masks) runs.1 runs.2 new runs.4)
 
-  abbrev pub AllTold : (commands : List Command) (masks : ℕ → List ℕ) (old : Program V) (text : List ℕ) (new : Program V)
-      → RunsAll told may_leave moment left_since faults limit cuts precheck old commands text new → Type 0
+  abbrev pub AllTold : (commands : List Command) (masks : ℕ → List ℕ) (old : Program V) (text : List ℕ) (new : Program V) → RunsAll g limit precheck old commands text new → Type 0
   AllTold [] masks old text new runs = AreTold masks old
   AllTold (command ∷ later) masks old text new runs =
       AreTold masks old × TellsBy command masks old runs.0 runs.1 runs.3
       × AllTold later (masks_behind command old runs.0 runs.1 runs.3 masks) runs.1 runs.2 new runs.4
 
   -- the first commands of a script that was run
-  abbrev pub NamedThere : (start : V) (script : List Command) (count : ℕ) (text : List ℕ) (new : Program V)
-      → HasRun told may_leave moment left_since faults limit cuts precheck start script count text new → Type 0
+  abbrev pub NamedThere : (start : V) (script : List Command) (count : ℕ) (text : List ℕ) (new : Program V) → HasRun g limit precheck start script count text new → Type 0
   NamedThere start script count text new run = AllNamed (take count script) (λ r. []) run.first text new run.runs
 
-  abbrev pub ToldThere : (start : V) (script : List Command) (count : ℕ) (text : List ℕ) (new : Program V)
-      → HasRun told may_leave moment left_since faults limit cuts precheck start script count text new → Type 0
+  abbrev pub ToldThere : (start : V) (script : List Command) (count : ℕ) (text : List ℕ) (new : Program V) → HasRun g limit precheck start script count text new → Type 0
   ToldThere start script count text new run = AllTold (take count script) (λ r. []) run.first text new run.runs
 
-  module _ (There : (start : V) (script : List Command) (count : ℕ) (text : List ℕ) (new : Program V) → HasRun told may_leave moment left_since faults limit cuts precheck start script count text new → Type 0)
+  module _ (There : (start : V) (script : List Command) (count : ℕ) (text : List ℕ) (new : Program V) → HasRun g limit precheck start script count text new → Type 0)
       (c : Course V) (mid : Option (List ℕ)) (count : ℕ) where
-    abbrev pub BeforeHalt : (halt : Halt) → HasStopped told may_leave moment left_since faults limit cuts precheck halt c mid → Type 0
+    abbrev pub BeforeHalt : (halt : Halt) → HasStopped g limit precheck halt c mid → Type 0
     BeforeHalt halt stopped = let stops = stopped.2 in There c.store stopped.0 stops.count stops.text stops.state stops.run
 
-    abbrev pub BeforeWant : Untouched c mid ⊎ HasStopped told may_leave moment left_since faults limit cuts precheck halts.OutOfMemory c mid → Type 0
+    abbrev pub BeforeWant : Untouched c mid ⊎ HasStopped g limit precheck halts.OutOfMemory c mid → Type 0
     BeforeWant (inl untouched) = Unit {0}
     BeforeWant (inr stopped) = BeforeHalt halts.OutOfMemory stopped
 
     -- of all commands that were run, before one that failed, or whose lines were cut
-    abbrev pub OfRun : (status : Status) → EndedScript told may_leave moment left_since faults limit cuts precheck c mid count status → Type 0
+    abbrev pub OfRun : (status : Status) → EndedScript g limit precheck c mid count status → Type 0
     OfRun Done ended = let ran = ended.2 in There c.store ended.0 (length ended.0) ran.text ran.state ran.run
     OfRun WriteFault ended = let cut = ended.1.2 in There c.store ended.1.0 cut.count cut.text cut.earlier cut.ran
     OfRun StoreFault ended = BeforeHalt halts.StoreFault ended
@@ -236,11 +229,11 @@ module _ {V : Type 0} (told : V → Option Files) (may_leave : V → Files → T
 
   abbrev pub StraysAreNamed : Type 0
   StraysAreNamed =
-      (c : Course V) (status : Status) (e : EndsAs told may_leave moment left_since faults cuts (Some (Run precheck limit)) c status) → OfRun NamedThere c e.mid e.count status e.ended
+      (c : Course V) (status : Status) (e : EndsAs g (Some (Run precheck limit)) c status) → OfRun NamedThere c e.mid e.count status e.ended
 
   abbrev pub PokesAreTold : Type 0
   PokesAreTold =
-      (c : Course V) (status : Status) (base : List Record) → IsOwn told may_leave base c.store
-      → (e : EndsAs told may_leave moment left_since faults cuts (Some (Run precheck limit)) c status)
-      → NoneEscapesBefore told may_leave moment left_since faults limit cuts precheck c e.mid e.count status e.ended
+      (c : Course V) (status : Status) (base : List Record) → IsOwn g base c.store
+      → (e : EndsAs g (Some (Run precheck limit)) c status)
+      → NoneEscapesBefore g limit precheck c e.mid e.count status e.ended
       → OfRun ToldThere c e.mid e.count status e.ended

@@ -15,7 +15,7 @@ use Rattle.dali_run.specs.Steps.{Steps}
 use Rattle.dali_script.specs.declared.commands.Command.{Command}
 use Rattle.dali_script.specs.declared.faults.Kind.{Kind}
 use Rattle.dali_script.specs.Grammar.{IsSpelled, IsWrong}
-use Rattle.dali_store.specs.Store.{Files}
+use Rattle.dali_store.specs.declared.store.Store.{Ghosts}
 use Rattle.dali_streams.specs.Streams.{ReadAll, Appends, AppendsSome}
 
 pub record Spells (before : Option (List ℕ)) (script : List Command) (after : Option (List ℕ)) : Type 0 where
@@ -35,11 +35,11 @@ pub record IsNext (script : List Command) (count : ℕ) (command : Command) : Ty
   pub within : count < length script
   pub next : take (count + 1) script ≡ take count script ++ command ∷ []
 
-module _ {V : Type 0} (told : V → Option Files) (may_leave : V → Files → Type 0) (moment : V → ℕ) (left_since : V → ℕ → Files → Type 0) (faults : V → ℕ) (limit : ℕ) (cuts : V → ℕ → Option Files) (precheck : Bool) where
+module _ {V : Type 0} (g : Ghosts V) (limit : ℕ) (precheck : Bool) where
   pub record RanWhole (start : V) (script : List Command) (before after : Option (List ℕ)) (end : V) : Type 0 where
     pub text : List ℕ
     pub state : Program V
-    pub run : HasRun told may_leave moment left_since faults limit cuts precheck start script (length script) text state
+    pub run : HasRun g limit precheck start script (length script) text state
     pub store : inner (store_of state) ≡ end
     pub written : Appends before text after
 
@@ -49,9 +49,9 @@ module _ {V : Type 0} (told : V → Option Files) (may_leave : V → Files → T
     pub next : IsNext script count command
     pub text : List ℕ
     pub state : Program V
-    pub run : HasRun told may_leave moment left_since faults limit cuts precheck start script count text state
+    pub run : HasRun g limit precheck start script count text state
     pub last : Fuse V
-    pub fails : Fails told may_leave moment left_since faults precheck halt command state last
+    pub fails : Fails g precheck halt command state last
     pub store : inner last ≡ end
     pub written : Appends before text after
 
@@ -61,10 +61,10 @@ module _ {V : Type 0} (told : V → Option Files) (may_leave : V → Files → T
     pub next : IsNext script count command
     pub text : List ℕ
     pub earlier : Program V
-    pub ran : HasRun told may_leave moment left_since faults limit cuts precheck start script count text earlier
+    pub ran : HasRun g limit precheck start script count text earlier
     pub more : List ℕ
     pub state : Program V
-    pub steps : Steps told may_leave moment left_since faults limit cuts precheck earlier command more state
+    pub steps : Steps g limit precheck earlier command more state
     pub store : inner (store_of state) ≡ end
     pub between : Option (List ℕ)
     pub written : Appends before text between

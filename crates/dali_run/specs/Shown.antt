@@ -3,13 +3,13 @@
 --     HoldsExpected L gs y     the words of the regions have the records that the log L is expected to leave, each key's and no others
 --     ShowsExpected            so it is where a round may begin, if no region was poked since the core was made and the engine serves
 --     VerifiesAlways           there memory, answers and deleted transactions are those that a plain replay of the whole log comes to
-use Rattle.std.specs.Prelude.{◌≡◌, ℕ, true, List, Option, Some, None, IfSome, is_some, map}
+use Rattle.std.specs.Prelude.{◌≡◌, ℕ, true, List, Some, None, IfSome, is_some, map}
 use Rattle.dali_record.specs.declared.records.Record.{Record}
 use Rattle.dali_region.specs.State.{RegionState}
 use Rattle.dali_history.specs.Serial.{Map, expected}
 use Rattle.dali_history.specs.Images.{HasRecords}
 use Rattle.dali_history.specs.History.{IsHistory}
-use Rattle.dali_store.specs.Store.{Files as Disk}
+use Rattle.dali_store.specs.declared.store.Store.{Ghosts}
 use Rattle.dali_system.specs.State.{SystemState, row_of}
 use Rattle.dali_crash.specs.Checkpoints.{Point}
 use Rattle.dali_crash.specs.CrashLogs.{IsUnpoked}
@@ -28,15 +28,15 @@ pub record HoldsExpected (L : List Record) (gs : List RegionState) (y : SystemSt
   pub defined : expected L ≡ Some expects
   pub records : HasRecords y.sizes (map (λ g. g.words) gs) expects
 
-module _ {V : Type 0} (told : V → Option Disk) (may_leave : V → Disk → Type 0) (faults : V → ℕ) where
+module _ {V : Type 0} (g : Ghosts V) where
   abbrev pub ShowsExpected : Type 0
   ShowsExpected =
       (s : Start) (B : List (List Record)) (p : Point) (gs : List RegionState) (y : SystemState) (v : Vaulted V)
-      → BeginsAt told may_leave faults s B p gs y v → is_some (told v.store) ≡ true → IsHistory s.log → IsServing y → IsUnpoked p.core
+      → BeginsAt g.told g.may_leave g.faults s B p gs y v → is_some (g.told v.store) ≡ true → IsHistory s.log → IsServing y → IsUnpoked p.core
       → HoldsExpected p.log gs y
 
   abbrev pub VerifiesAlways : Type 0
   VerifiesAlways =
       (s : Start) (B : List (List Record)) (p : Point) (gs : List RegionState) (y : SystemState) (v : Vaulted V)
-      → BeginsAt told may_leave faults s B p gs y v → is_some (told v.store) ≡ true → IsHistory s.log → IsServing y → IsUnpoked p.core
-      → IfSome (told v.store) (λ fs. (L : List Record) → IsWholeLog fs.log y L → IsVerified y.sizes (in_memory gs) L)
+      → BeginsAt g.told g.may_leave g.faults s B p gs y v → is_some (g.told v.store) ≡ true → IsHistory s.log → IsServing y → IsUnpoked p.core
+      → IfSome (g.told v.store) (λ fs. (L : List Record) → IsWholeLog fs.log y L → IsVerified y.sizes (in_memory gs) L)

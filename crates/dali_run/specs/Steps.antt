@@ -21,8 +21,10 @@ use Rattle.dali_memstore.specs.Fuse.{inner, passes_of, failed_of}
 use Rattle.dali_memstore.specs.declared.fuse.Fuse.{Fuse}
 use Rattle.dali_record.specs.declared.records.Record.{Record}
 use Rattle.dali_calls.specs.Flags.{FlagsStay}
+use Rattle.dali_calls.specs.Others.{IsGone}
 use Rattle.dali_store.specs.Faults.{Rose}
 use Rattle.dali_store.specs.Store.{Files, Only, Elapses}
+use Rattle.dali_store.specs.declared.store.Store.{Ghosts}
 use Rattle.dali_batch.specs.Batch.{IsUnformatted}
 use Rattle.dali_batch.specs.Formatting.{IsFormattedBy}
 use Rattle.dali_batch.specs.Reads.{OnlyReads}
@@ -32,7 +34,7 @@ use Rattle.dali_crash.specs.Checkpoints.{Point}
 use Rattle.dali_crash.specs.Traces.{Start}
 use Rattle.dali_vault.specs.Vaulted.{with_store}
 use Rattle.dali_clean.specs.Cleaned.{AreDead, IsDead}
-use Rattle.dali_clean.specs.Others.{OthersStay, IsGone}
+use Rattle.dali_clean.specs.Others.{OthersStay}
 use Rattle.dali_whole.specs.declared.whole.Core.{Core}
 use Rattle.dali_whole.specs.Cleaned.{EndsAt}
 use Rattle.dali_whole.specs.Cores.{IsWholeCore, IsNoShorter}
@@ -103,10 +105,10 @@ abbrev pub verdict : Bool → Line
 verdict true = lines.VerifyOk
 verdict false = lines.VerifyDiffers
 
-module _ {V : Type 0} (told : V → Option Files) (may_leave : V → Files → Type 0) (faults : V → ℕ) where
+module _ {V : Type 0} (g : Ghosts V) where
   pub record HasCleanedUp (t : ℕ) (c d : Core (Fuse V)) : Type 0 where
     pub was : IsDead (state_of c.system.state t)
-    pub ends : EndsAt (told_in told) (leaves_in may_leave) (faults_in faults) c.regions.items c.system.state c.vault t d.regions.items d.system.state
+    pub ends : EndsAt (told_in g) (leaves_in g) (faults_in g) c.regions.items c.system.state c.vault t d.regions.items d.system.state
     pub gone : IsGone d.system.state t
     pub others : OthersStay c.regions.items c.system.state t d.regions.items d.system.state
     pub dead : AreDead c.regions.items → AreDead d.regions.items
@@ -147,34 +149,33 @@ module _ {V : Type 0} (told : V → Option Files) (may_leave : V → Files → T
     abbrev pub Plays : Bool → List Told → Core (Fuse V) → List Transcribed → Core (Fuse V) → Type 0
     Plays whole blocks c transcripts d =
         (s : Start) (B : List (List Record)) (p : Point)
-        → BeginsAt (told_in told) (leaves_in may_leave) (faults_in faults) s B p c.regions.items c.system.state c.vault
-        → RoundLeads (told_in told) (leaves_in may_leave) (faults_in faults) precheck whole s p blocks (map lines_in transcripts) (map (λ t. t.receipts) transcripts)
+        → BeginsAt (told_in g) (leaves_in g) (faults_in g) s B p c.regions.items c.system.state c.vault
+        → RoundLeads (told_in g) (leaves_in g) (faults_in g) precheck whole s p blocks (map lines_in transcripts) (map (λ t. t.receipts) transcripts)
         d.regions.items d.system.state d.vault
 
-module _ {V : Type 0} (told : V → Option Files) (may_leave : V → Files → Type 0) (moment : V → ℕ) (left_since : V → ℕ → Files → Type 0) (faults : V → ℕ) where
   -- a crash at any moment of a round leaves files that restart right
   abbrev pub RightWithin : Core (Fuse V) → Core (Fuse V) → Type 0
   RightWithin c d =
-      RoundLeavesRight (told_in told) (leaves_in may_leave) (faults_in faults) (moment_in moment) (since_in left_since) c.regions.items c.system.state c.vault
+      RoundLeavesRight (told_in g) (leaves_in g) (faults_in g) (moment_in g) (since_in g) c.regions.items c.system.state c.vault
       d.regions.items d.system.state d.vault
 
   module _ (precheck : Bool) where
     -- each client's lines behind its number, by ascending number
     pub record RunsRound (blocks : List Told) (c : Core (Fuse V)) (text : List ℕ) (d : Core (Fuse V)) : Type 0 where
       pub transcripts : List Transcribed
-      pub plays : Plays told may_leave faults precheck true blocks c transcripts d
-      pub longer : IsNoShorter (told_in told) c.vault d.vault
+      pub plays : Plays precheck true blocks c transcripts d
+      pub longer : IsNoShorter (told_in g) c.vault d.vault
       pub moments : RightWithin c d
-      pub places : PlacesIn told d
+      pub places : PlacesIn g d
       pub printed : text ≡ round_lines blocks (map lines_in transcripts)
 
     -- its lines without a number; where one says that the store failed, the fuse failed a call
     pub record ActsAlone (act : Act) (c : Core (Fuse V)) (text : List ℕ) (d : Core (Fuse V)) : Type 0 where
       pub transcripts : List Transcribed
-      pub plays : Plays told may_leave faults precheck true (alone act) c transcripts d
-      pub longer : IsNoShorter (told_in told) c.vault d.vault
+      pub plays : Plays precheck true (alone act) c transcripts d
+      pub longer : IsNoShorter (told_in g) c.vault d.vault
       pub moments : RightWithin c d
-      pub places : PlacesIn told d
+      pub places : PlacesIn g d
       pub printed : text ≡ flat_map alone_texts transcripts
       pub by_fuse : list_any says_failure transcripts ≡ true → failed_of c.vault.store < failed_of d.vault.store
 
@@ -186,39 +187,37 @@ module _ {V : Type 0} (told : V → Option Files) (may_leave : V → Files → T
     StepsAlone name act (Up core) text new = (d : Core (Fuse V)) × ActsAlone act core text d × (new ≡ Up d)
     StepsAlone name act (Down store) text new = Prints (lines.Down name) (Down store) text new
 
-module _ {V : Type 0} (told : V → Option Files) (may_leave : V → Files → Type 0) (moment : V → ℕ) (left_since : V → ℕ → Files → Type 0) where
   -- a crash leaves nothing that it might not have left before, at any moment too
   pub record LeavesLess (old new : V) : Type 0 where
-    pub tells : is_some (told new) ≡ is_some (told old)
-    pub crash : (c : Files) → may_leave new c → may_leave old c
-    pub time : Elapses (moment old) (moment new) (left_since old) (left_since new) (may_leave new)
+    pub tells : is_some (g.told new) ≡ is_some (g.told old)
+    pub crash : (c : Files) → g.may_leave new c → g.may_leave old c
+    pub time : Elapses (g.moment old) (g.moment new) (g.left_since old) (g.left_since new) (g.may_leave new)
 
-module _ {V : Type 0} (told : V → Option Files) (may_leave : V → Files → Type 0) (moment : V → ℕ) (left_since : V → ℕ → Files → Type 0) (faults : V → ℕ) where
   -- the files that a database is made in, and those that a restart works on
   abbrev pub Makes : ℕ → ℕ → Fuse V → Fuse V → Type 0
   Makes index heap old new =
-      IsMade (told_in told) (leaves_in may_leave) (moment_in moment) (since_in left_since) (faults_in faults) passes_of (sizes_of index heap) old new
+      IsMade (told_in g) (leaves_in g) (moment_in g) (since_in g) (faults_in g) passes_of (sizes_of index heap) old new
 
   abbrev pub Leaves : Fuse V → Fuse V → Type 0
-  Leaves old new = IsLeft (told_in told) (leaves_in may_leave) (moment_in moment) (since_in left_since) (faults_in faults) passes_of old new
+  Leaves old new = IsLeft (told_in g) (leaves_in g) (moment_in g) (since_in g) (faults_in g) passes_of old new
 
   -- the store was read, and nothing is otherwise
   pub record IsRead (c d : Core (Fuse V)) : Type 0 where
     pub same : d ≡ record c { vault = with_store c.vault d.vault.store }
-    pub reads : OnlyReads (told_in told) (moment_in moment) (since_in left_since) (leaves_in may_leave) c.vault.store d.vault.store
+    pub reads : OnlyReads (told_in g) (moment_in g) (since_in g) (leaves_in g) c.vault.store d.vault.store
 
   -- whether memory is what a plain replay of the whole log comes to, records that wait to be flushed among them
   pub record Compares (c : Core (Fuse V)) (text : List ℕ) (d : Core (Fuse V)) : Type 0 where
     pub is : Bool
-    pub replayed : IfSome (told_in told c.vault.store) (λ fs. (L : List Record) × IsWholeLog fs.log c.system.state L × (IsTrue is ↔ IsVerified c.system.state.sizes (in_memory c.regions.items) L))
+    pub replayed : IfSome (told_in g c.vault.store) (λ fs. (L : List Record) × IsWholeLog fs.log c.system.state L × (IsTrue is ↔ IsVerified c.system.state.sizes (in_memory c.regions.items) L))
     pub read : IsRead c d
-    pub kept : faults_in faults d.vault.store ≡ faults_in faults c.vault.store
+    pub kept : faults_in g d.vault.store ≡ faults_in g c.vault.store
     pub printed : text ≡ texts (verdict is ∷ [])
 
   -- a call of the store failed in it, and the fuse failed one
   pub record ComparisonStops (c : Core (Fuse V)) (text : List ℕ) (d : Core (Fuse V)) : Type 0 where
     pub by_fuse : failed_of c.vault.store < failed_of d.vault.store
-    pub rose : Rose (faults_in faults c.vault.store) (faults_in faults d.vault.store)
+    pub rose : Rose (faults_in g c.vault.store) (faults_in g d.vault.store)
     pub read : IsRead c d
     pub printed : text ≡ texts (lines.VerifyStoreStopped ∷ [])
 
@@ -228,7 +227,7 @@ module _ {V : Type 0} (told : V → Option Files) (may_leave : V → Files → T
   -- dead transactions are cleaned up first
   abbrev pub VerifyIn : Option Cause → Core (Fuse V) → List ℕ → Program V → Type 0
   VerifyIn (Some cause) core text new = Prints (lines.Stopped names.Verify cause) (Up core) text new
-  VerifyIn None core text new = (c : Core (Fuse V)) × (d : Core (Fuse V)) × HasCleaned told may_leave faults core c × EndsComparison c text d × (new ≡ Up d)
+  VerifyIn None core text new = (c : Core (Fuse V)) × (d : Core (Fuse V)) × HasCleaned core c × EndsComparison c text d × (new ≡ Up d)
 
   abbrev pub StepsVerify : Program V → List ℕ → Program V → Type 0
   StepsVerify (Up core) text new = VerifyIn core.system.state.stop core text new
@@ -237,7 +236,7 @@ module _ {V : Type 0} (told : V → Option Files) (may_leave : V → Files → T
   -- files without a database are only read
   pub record Rereads (old new : Fuse V) : Type 0 where
     pub left : Leaves old new
-    pub none : IfSome (told_in told old) (λ fs. IsUnformatted fs.log → OnlyReads (told_in told) (moment_in moment) (since_in left_since) (leaves_in may_leave) old new)
+    pub none : IfSome (told_in g old) (λ fs. IsUnformatted fs.log → OnlyReads (told_in g) (moment_in g) (since_in g) (leaves_in g) old new)
 
   module _ (limit : ℕ) where
     -- a database is made over a log without batches
@@ -245,13 +244,13 @@ module _ {V : Type 0} (told : V → Option Files) (may_leave : V → Files → T
       pub core : Core (Fuse V)
       pub up : new ≡ Up core
       pub fresh : IsNewCore (sizes_of index heap) limit core.regions.items core.system core.vault
-      pub whole : IsWholeCore (told_in told) core.regions.items core.system.state core.vault
-      pub begins : RunBegins (told_in told) (leaves_in may_leave) (faults_in faults) (sizes_of index heap) limit core.regions.items core.system.state core.vault
-      pub unformatted : IfSome (told_in told (store_of old)) (λ fs. IsUnformatted fs.log)
-      pub makes : IfSome (told_in told (store_of old)) (λ _. (c : Files) → leaves_in may_leave core.vault.store c
-          → IsFormattedBy (leaves_in may_leave (store_of old)) (first_body (sizes_of index heap)) c)
+      pub whole : IsWholeCore (told_in g) core.regions.items core.system.state core.vault
+      pub begins : RunBegins (told_in g) (leaves_in g) (faults_in g) (sizes_of index heap) limit core.regions.items core.system.state core.vault
+      pub unformatted : IfSome (told_in g (store_of old)) (λ fs. IsUnformatted fs.log)
+      pub makes : IfSome (told_in g (store_of old)) (λ _. (c : Files) → leaves_in g core.vault.store c
+          → IsFormattedBy (leaves_in g (store_of old)) (first_body (sizes_of index heap)) c)
       pub left : Makes index heap (store_of old) core.vault.store
-      pub kept : faults_in faults core.vault.store ≡ faults_in faults (store_of old)
+      pub kept : faults_in g core.vault.store ≡ faults_in g (store_of old)
       pub silent : text ≡ []
 
     -- the memory is given up, and the database is found in the files
@@ -259,17 +258,17 @@ module _ {V : Type 0} (told : V → Option Files) (may_leave : V → Files → T
       pub core : Core (Fuse V)
       pub report : Report
       pub up : new ≡ Up core
-      pub gives : IfSome (told_in told (store_of old)) (λ fs. Gives fs (outcome core.regions.items report))
-      pub read : IfSome (told_in told (store_of old)) (λ fs. IsReadAs fs (outcome core.regions.items report))
+      pub gives : IfSome (told_in g (store_of old)) (λ fs. Gives fs (outcome core.regions.items report))
+      pub read : IfSome (told_in g (store_of old)) (λ fs. IsReadAs fs (outcome core.regions.items report))
       pub fresh : IsFresh limit core.regions.items core.system core.vault
-      pub whole : IsWholeCore (told_in told) core.regions.items core.system.state core.vault
-      pub begins : IfSome (told_in told (store_of old)) (λ fs.
-          BeginsRun (told_in told) (leaves_in may_leave) (faults_in faults) limit fs core.regions.items core.system.state core.vault)
-      pub rests : IfSome (told_in told (store_of old)) (λ fs. (c : Files) → leaves_in may_leave core.vault.store c → LeavesAtRest fs c)
-      pub idle : IfSome (told_in told (store_of old)) (λ fs.
-          StaysIdle (told_in told) (leaves_in may_leave) (moment_in moment) (since_in left_since) fs (store_of old) core.vault.store)
+      pub whole : IsWholeCore (told_in g) core.regions.items core.system.state core.vault
+      pub begins : IfSome (told_in g (store_of old)) (λ fs.
+          BeginsRun (told_in g) (leaves_in g) (faults_in g) limit fs core.regions.items core.system.state core.vault)
+      pub rests : IfSome (told_in g (store_of old)) (λ fs. (c : Files) → leaves_in g core.vault.store c → LeavesAtRest fs c)
+      pub idle : IfSome (told_in g (store_of old)) (λ fs.
+          StaysIdle (told_in g) (leaves_in g) (moment_in g) (since_in g) fs (store_of old) core.vault.store)
       pub left : Leaves (store_of old) core.vault.store
-      pub kept : faults_in faults core.vault.store ≡ faults_in faults (store_of old)
+      pub kept : faults_in g core.vault.store ≡ faults_in g (store_of old)
       pub printed : text ≡ texts (lines.RolledBack report.rolled_back.items ∷ lines.Deleted report.deleted.items ∷ [])
 
     -- a call of the store failed in it, and the fuse failed one
@@ -277,36 +276,35 @@ module _ {V : Type 0} (told : V → Option Files) (may_leave : V → Files → T
       pub store : Fuse V
       pub down : new ≡ Down store
       pub by_fuse : failed_of (store_of old) < failed_of store
-      pub rose : Rose (faults_in faults (store_of old)) (faults_in faults store)
+      pub rose : Rose (faults_in g (store_of old)) (faults_in g store)
       pub left : Rereads (store_of old) store
       pub printed : text ≡ texts (lines.RestartStoreStopped ∷ [])
 
     abbrev pub StepsRestart : Program V → List ℕ → Program V → Type 0
     StepsRestart old text new = Restarts old text new ⊎ RestartStops old text new
 
-    module _ (cuts : V → ℕ → Option Files) where
-      -- a crash: the fuse is removed, and what the store makes of its files with this choice is all that is left
-      pub record StepsCrash (choice : ℕ) (old : Program V) (text : List ℕ) (new : Program V) : Type 0 where
-        pub store : V
-        pub down : IsDown new store
-        pub chosen : told store ≡ cuts (inner (store_of old)) choice
-        pub durable : IfSome (told store) (λ fs. Only fs (may_leave store))
-        pub left : LeavesLess told may_leave moment left_since (inner (store_of old)) store
-        pub kept : faults store ≡ faults (inner (store_of old))
-        pub printed : text ≡ texts (lines.Crash choice ∷ [])
+    -- a crash: the fuse is removed, and what the store makes of its files with this choice is all that is left
+    pub record StepsCrash (choice : ℕ) (old : Program V) (text : List ℕ) (new : Program V) : Type 0 where
+      pub store : V
+      pub down : IsDown new store
+      pub chosen : g.told store ≡ g.cuts (inner (store_of old)) choice
+      pub durable : IfSome (g.told store) (λ fs. Only fs (g.may_leave store))
+      pub left : LeavesLess (inner (store_of old)) store
+      pub kept : g.faults store ≡ g.faults (inner (store_of old))
+      pub printed : text ≡ texts (lines.Crash choice ∷ [])
 
-      module _ (precheck : Bool) where
-        abbrev pub Steps : Program V → Command → List ℕ → Program V → Type 0
-        Steps old (Size index heap) text new = StepsSize index heap old text new
-        Steps old Open text new = StepsRestart old text new
-        Steps old (Round blocks) text new = StepsRound told may_leave moment left_since faults precheck blocks old text new
-        Steps old (Poke region word mask) text new = StepsAlone told may_leave moment left_since faults precheck names.Poke (Pokes region word mask) old text new
-        Steps old Audit text new = StepsAlone told may_leave moment left_since faults precheck names.Audit Audits old text new
-        Steps old Checkpoint text new = StepsAlone told may_leave moment left_since faults precheck names.Checkpoint Checkpoints old text new
-        Steps old Cleanup text new = StepsCleanup told may_leave faults old text new
-        Steps old (Crash choice) text new = StepsCrash choice old text new
-        Steps old Restart text new = StepsRestart old text new
-        Steps old Show text new = StepsShow told may_leave faults old text new
-        Steps old Verify text new = StepsVerify old text new
-        Steps old Next text new = (text ≡ []) × (new ≡ old)
-        Steps old (SetFuse passes) text new = StepsFuse passes old text new
+    module _ (precheck : Bool) where
+      abbrev pub Steps : Program V → Command → List ℕ → Program V → Type 0
+      Steps old (Size index heap) text new = StepsSize index heap old text new
+      Steps old Open text new = StepsRestart old text new
+      Steps old (Round blocks) text new = StepsRound precheck blocks old text new
+      Steps old (Poke region word mask) text new = StepsAlone precheck names.Poke (Pokes region word mask) old text new
+      Steps old Audit text new = StepsAlone precheck names.Audit Audits old text new
+      Steps old Checkpoint text new = StepsAlone precheck names.Checkpoint Checkpoints old text new
+      Steps old Cleanup text new = StepsCleanup old text new
+      Steps old (Crash choice) text new = StepsCrash choice old text new
+      Steps old Restart text new = StepsRestart old text new
+      Steps old Show text new = StepsShow old text new
+      Steps old Verify text new = StepsVerify old text new
+      Steps old Next text new = (text ≡ []) × (new ≡ old)
+      Steps old (SetFuse passes) text new = StepsFuse passes old text new

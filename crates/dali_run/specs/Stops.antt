@@ -1,10 +1,10 @@
 -- How parts of a run stop.
---     NotRead left .. halt        no script was read
+--     NotRead s .. halt           no script was read
 --     CommandStops halt ..        a command ended the run with this, or its lines couldn't be written
 --     ScriptStops halt ..         the same of a script
 --     GeneratorHalts halt ..      the same of a generated script, and its summary
 --     DumpStops halt ..           the log wasn't written out
-use Rattle.std.specs.Prelude.{◌≡◌, ℕ, Bool, List, Option}
+use Rattle.std.specs.Prelude.{◌≡◌, ℕ, Bool, List}
 use Rattle.dali_run.specs.declared.halt.Halt.{Halt}
 use Rattle.dali_run.specs.declared.halt.Halt.TheVariants.{BadScript, TooLong, ReadFault, WriteFault, StoreFault, LogFull, OutOfMemory}
 use Rattle.dali_run.specs.declared.program.Program.{Program}
@@ -16,44 +16,47 @@ use Rattle.dali_run.specs.Scripts.{SpellsNone, StoppedIn, CutIn}
 use Rattle.dali_run.specs.Steps.{Steps}
 use Rattle.dali_script.specs.declared.commands.Command.{Command}
 use Rattle.dali_store.specs.Faults.{Rose}
-use Rattle.dali_store.specs.Store.{Files}
+use Rattle.dali_store.specs.declared.store.Store.{Ghosts}
 use Rattle.dali_streams.specs.Streams.{ReadTooMany, AppendsSome}
+use Rattle.dali_streams.specs.declared.streams.Sink.{Ghosts as SinkGhosts}
+use Rattle.dali_streams.specs.declared.streams.Source.{Ghosts as SourceGhosts}
 
-abbrev pub NotRead : Option (List ℕ) → Option (List ℕ) → ℕ → ℕ → Halt → Type 0
-NotRead left left' faults faults' (BadScript line kind) = SpellsNone left line kind left'
-NotRead left left' faults faults' TooLong = ReadTooMany left 1048576 left'
-NotRead left left' faults faults' ReadFault = Rose faults faults'
-NotRead left left' faults faults' OutOfMemory = Unit {0}
-NotRead left left' faults faults' _ = ⊥
+abbrev pub NotRead : {S : Type 0} → SourceGhosts S → S → S → Halt → Type 0
+NotRead s old new (BadScript line kind) = SpellsNone (s.left old) line kind (s.left new)
+NotRead s old new TooLong = ReadTooMany (s.left old) 1048576 (s.left new)
+NotRead s old new ReadFault = Rose (s.faults old) (s.faults new)
+NotRead s old new OutOfMemory = Unit {0}
+NotRead s old new _ = ⊥
 
-module _ {V : Type 0} (told : V → Option Files) (may_leave : V → Files → Type 0) (moment : V → ℕ) (left_since : V → ℕ → Files → Type 0) (faults : V → ℕ) (limit : ℕ) (cuts : V → ℕ → Option Files) (precheck : Bool) where
-  pub record LinesCut (command : Command) (old new : Program V) (before after : Option (List ℕ)) : Type 0 where
+module _ {V K : Type 0} (g : Ghosts V) (k : SinkGhosts K) (limit : ℕ) (precheck : Bool) where
+  pub record LinesCut (command : Command) (old new : Program V) (sink sink' : K) : Type 0 where
     pub text : List ℕ
-    pub steps : Steps told may_leave moment left_since faults limit cuts precheck old command text new
-    pub cut : AppendsSome before text after
+    pub steps : Steps g limit precheck old command text new
+    pub cut : AppendsSome (k.taken sink) text (k.taken sink')
 
-  abbrev pub CommandStops : Halt → Command → Program V → Program V → Option (List ℕ) → Option (List ℕ) → ℕ → ℕ → Type 0
-  CommandStops WriteFault command old new before after count count' = LinesCut command old new before after × Rose count count'
-  CommandStops halt command old new before after count count' = Fails told may_leave moment left_since faults precheck halt command old (store_of new) × (after ≡ before)
+  abbrev pub CommandStops : Halt → Command → Program V → Program V → K → K → Type 0
+  CommandStops WriteFault command old new sink sink' = LinesCut command old new sink sink' × Rose (k.faults sink) (k.faults sink')
+  CommandStops halt command old new sink sink' = Fails g precheck halt command old (store_of new) × (k.taken sink' ≡ k.taken sink)
 
-  abbrev pub ScriptStops : Halt → V → List Command → V → Option (List ℕ) → Option (List ℕ) → ℕ → ℕ → Type 0
-  ScriptStops WriteFault start script end before after count count' = CutIn told may_leave moment left_since faults limit cuts precheck start script before after end × Rose count count'
-  ScriptStops halt start script end before after count count' = StoppedIn told may_leave moment left_since faults limit cuts precheck halt start script before after end
+  abbrev pub ScriptStops : Halt → V → List Command → V → K → K → Type 0
+  ScriptStops WriteFault start script end sink sink' = CutIn g limit precheck start script (k.taken sink) (k.taken sink') end × Rose (k.faults sink) (k.faults sink')
+  ScriptStops halt start script end sink sink' = StoppedIn g limit precheck halt start script (k.taken sink) (k.taken sink') end
 
-module _ {V : Type 0} (told : V → Option Files) (may_leave : V → Files → Type 0) (moment : V → ℕ) (left_since : V → ℕ → Files → Type 0) (faults : V → ℕ) where
-  abbrev pub DumpStops : Halt → V → V → Option (List ℕ) → Option (List ℕ) → ℕ → ℕ → Type 0
-  DumpStops WriteFault old new before after count count' = (text : List ℕ) × Dumps told may_leave moment left_since faults old text new × AppendsSome before text after × Rose count count'
-  DumpStops halt old new before after count count' = NotDumped told may_leave moment left_since faults halt old new × (after ≡ before)
+module _ {V K : Type 0} (g : Ghosts V) (k : SinkGhosts K) where
+  abbrev pub DumpStops : Halt → V → V → K → K → Type 0
+  DumpStops WriteFault old new sink sink' = (text : List ℕ) × Dumps g old text new × AppendsSome (k.taken sink) text (k.taken sink') × Rose (k.faults sink) (k.faults sink')
+  DumpStops halt old new sink sink' = NotDumped g halt old new × (k.taken sink' ≡ k.taken sink)
 
-  module _ (cuts : V → ℕ → Option Files) (clients size number : ℕ) where
-    -- behind the generation of the blocks
-    abbrev pub GeneratorEnds : Halt → V → V → Type 0
-    GeneratorEnds StoreFault start end = GeneratorFails told may_leave moment left_since faults cuts clients size number start end
-    GeneratorEnds (LogFull end most) start left = GeneratorIsRefused told may_leave moment left_since faults cuts clients size number (LogFull end most) start left
-    GeneratorEnds OutOfMemory start end = GeneratorWants told may_leave moment left_since faults cuts clients size number start end
-    GeneratorEnds halt start end = GeneratorStops told may_leave moment left_since faults cuts clients size number halt start end
+module _ {V : Type 0} (g : Ghosts V) (clients size number : ℕ) where
+  -- behind the generation of the blocks
+  abbrev pub GeneratorEnds : Halt → V → V → Type 0
+  GeneratorEnds StoreFault start end = GeneratorFails g clients size number start end
+  GeneratorEnds (LogFull end most) start left = GeneratorIsRefused g clients size number (LogFull end most) start left
+  GeneratorEnds OutOfMemory start end = GeneratorWants g clients size number start end
+  GeneratorEnds halt start end = GeneratorStops g clients size number halt start end
 
-    abbrev pub GeneratorHalts : Halt → V → V → Option (List ℕ) → Option (List ℕ) → ℕ → ℕ → Type 0
-    GeneratorHalts WriteFault start end before after count count' =
-        (text : List ℕ) × Generates told may_leave moment left_since faults cuts clients size number start text end × AppendsSome before text after × Rose count count'
-    GeneratorHalts halt start end before after count count' = GeneratorEnds halt start end × (after ≡ before)
+module _ {V K : Type 0} (g : Ghosts V) (k : SinkGhosts K) (clients size number : ℕ) where
+  abbrev pub GeneratorHalts : Halt → V → V → K → K → Type 0
+  GeneratorHalts WriteFault start end sink sink' =
+      (text : List ℕ) × Generates g clients size number start text end × AppendsSome (k.taken sink) text (k.taken sink') × Rose (k.faults sink) (k.faults sink')
+  GeneratorHalts halt start end sink sink' = GeneratorEnds g clients size number halt start end × (k.taken sink' ≡ k.taken sink)

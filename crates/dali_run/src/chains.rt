@@ -14,20 +14,20 @@ use dali_store::Store;
 /// The core that a format handed out stands where a round may begin: at the start of a run over the one record of its log. That
 /// start is placed as the laws of a crash ask for.
 pub fn a_format_begins<V: Store>()
-    ensures { FormatBegins V.told V.may_leave V.faults }
+    ensures { FormatBegins V.Store }
 {}
 
 /// So does the core that a restart handed out over files that are found, as those that a crash of a run leaves. The log is
 /// theirs, or has the record of the restart besides, and is a history where theirs is one.
 pub fn a_restart_begins<V: Store>()
-    ensures { RestartBegins V.told V.may_leave V.faults }
+    ensures { RestartBegins V.Store }
 {}
 
 /// Behind a round that ended with `Done` a round may begin, and behind a row of such rounds: the run goes on from the point where
 /// the first began.
 pub fn rounds_begin_again<V: Store>()
-    ensures round { RoundBegins V.told V.may_leave V.faults }
-    ensures rounds { RoundsBegin V.told V.may_leave V.faults }
+    ensures round { RoundBegins V.Store }
+    ensures rounds { RoundsBegin V.Store }
 {}
 
 /// Where a run stands with its core, between two rounds or behind one that was cut, and no audit missed a stray write, each disk
@@ -35,13 +35,13 @@ pub fn rounds_begin_again<V: Store>()
 /// history and no damage escapes, that is right, and whatever was acknowledged survives, or was deleted since a chain led from
 /// damage to it. The start is to be placed as those above are.
 pub fn a_crash_restarts<V: Store>()
-    ensures { CrashRestarts V.told V.may_leave V.faults }
+    ensures { CrashRestarts V.Store }
 {}
 
 /// Between two rounds, where the engine runs, no transaction is left and no region was poked since the core was made, the words
 /// in memory have the records that the log is expected to leave, unflushed records of it included. There a comparison with a
 /// plain replay of the whole log comes out equal. The run is to have begun with a history, over a store that tells its files.
 pub fn memory_is_as_expected<V: Store>()
-    ensures records { ShowsExpected V.told V.may_leave V.faults }
-    ensures verifies { VerifiesAlways V.told V.may_leave V.faults }
+    ensures records { ShowsExpected V.Store }
+    ensures verifies { VerifiesAlways V.Store }
 {}

@@ -45,7 +45,7 @@ fn dead_in(system: &System) -> Result<Vec<u64>, AllocError>
 
 // Cleans up one of them. Another's clean-up may have done so.
 fn clean_up<V: Store>(core: &mut Core<Fuse<V>>, txn: u64) -> Result<(), Halt>
-    ensures cleans { OnOk result (CleansUp V.told V.may_leave V.faults txn core.old core.new) }
+    ensures cleans { OnOk result (CleansUp V.Store txn core.old core.new) }
     ensures memory { IfErr result (λ halt. halt ≡ OutOfMemory) }
     ensures vault { core.new.vault ≡ core.old.vault }
     ensures flags { FlagsStay core.old.regions.items core.new.regions.items }
@@ -58,7 +58,7 @@ fn clean_up<V: Store>(core: &mut Core<Fuse<V>>, txn: u64) -> Result<(), Halt>
 }
 
 fn clean_all<V: Store>(core: &mut Core<Fuse<V>>, dead: &[u64]) -> Result<(), Halt>
-    ensures cleans { OnOk result (CleansAll V.told V.may_leave V.faults dead.now core.old core.new) }
+    ensures cleans { OnOk result (CleansAll V.Store dead.now core.old core.new) }
     ensures memory { IfErr result (λ halt. halt ≡ OutOfMemory) }
     ensures vault { core.new.vault ≡ core.old.vault }
     ensures flags { FlagsStay core.old.regions.items core.new.regions.items }
@@ -72,7 +72,7 @@ fn clean_all<V: Store>(core: &mut Core<Fuse<V>>, dead: &[u64]) -> Result<(), Hal
 // Cleans up all dead transactions, and answers which these were.
 fn clean_dead<V: Store>(core: &mut Core<Fuse<V>>) -> Result<Vec<u64>, Halt>
     ensures dead { IfOk result (λ dead. dead.items ≡ dead_in core.old.system.state) }
-    ensures cleaned { OnOk result (HasCleaned V.told V.may_leave V.faults core.old core.new) }
+    ensures cleaned { OnOk result (HasCleaned V.Store core.old core.new) }
     ensures memory { IfErr result (λ halt. halt ≡ OutOfMemory) }
     ensures vault { core.new.vault ≡ core.old.vault }
     ensures flags { FlagsStay core.old.regions.items core.new.regions.items }
@@ -83,7 +83,8 @@ fn clean_dead<V: Store>(core: &mut Core<Fuse<V>>) -> Result<Vec<u64>, Halt>
 }
 
 fn cleanup_of<V: Store>(alloc: Global, core: &mut Core<Fuse<V>>) -> Result<Vec<u8>, Halt>
-    ensures steps { IfOk result (λ text. CleanupIn V.told V.may_leave V.faults core.old.system.state.stop core.old text.items (Program.Up core.new)) }
+    ensures steps { IfOk result
+        (λ text. CleanupIn V.Store core.old.system.state.stop core.old text.items (Program.Up core.new)) }
     ensures memory { IfErr result (λ halt. halt ≡ OutOfMemory) }
     ensures vault { core.new.vault ≡ core.old.vault }
     ensures flags { FlagsStay core.old.regions.items core.new.regions.items }
@@ -110,11 +111,11 @@ fn cleanup_of<V: Store>(alloc: Global, core: &mut Core<Fuse<V>>) -> Result<Vec<u
 
 /// Takes back what dead clients left.
 pub fn cleanup<V: Store>(alloc: Global, program: Program<V>) -> (Program<V>, Result<Vec<u8>, Halt>)
-    requires images { HoldsImages V.told program }
-    ensures steps { IfOk result.1 (λ text. StepsCleanup V.told V.may_leave V.faults program text.items result.0) }
+    requires images { HoldsImages V.Store program }
+    ensures steps { IfOk result.1 (λ text. StepsCleanup V.Store program text.items result.0) }
     ensures memory { IfErr result.1 (λ halt. halt ≡ OutOfMemory) }
     ensures store { store_of result.0 ≡ store_of program }
-    ensures images { HoldsImages V.told result.0 }
+    ensures images { HoldsImages V.Store result.0 }
 {
     match program {
         Program::Up { mut core } => {
@@ -139,7 +140,8 @@ fn text_of_core<V: Store>(alloc: Global, core: &Core<Fuse<V>>) -> Result<Vec<u8>
 }
 
 fn show_of<V: Store>(alloc: Global, core: &mut Core<Fuse<V>>) -> Result<Vec<u8>, Halt>
-    ensures steps { IfOk result (λ text. ShowIn V.told V.may_leave V.faults core.old.system.state.stop core.old text.items (Program.Up core.new)) }
+    ensures steps { IfOk result
+        (λ text. ShowIn V.Store core.old.system.state.stop core.old text.items (Program.Up core.new)) }
     ensures memory { IfErr result (λ halt. halt ≡ OutOfMemory) }
     ensures vault { core.new.vault ≡ core.old.vault }
     ensures flags { FlagsStay core.old.regions.items core.new.regions.items }
@@ -161,11 +163,11 @@ fn show_of<V: Store>(alloc: Global, core: &mut Core<Fuse<V>>) -> Result<Vec<u8>,
 
 /// Lists the records, once dead transactions are cleaned up.
 pub fn show<V: Store>(alloc: Global, program: Program<V>) -> (Program<V>, Result<Vec<u8>, Halt>)
-    requires images { HoldsImages V.told program }
-    ensures steps { IfOk result.1 (λ text. StepsShow V.told V.may_leave V.faults program text.items result.0) }
+    requires images { HoldsImages V.Store program }
+    ensures steps { IfOk result.1 (λ text. StepsShow V.Store program text.items result.0) }
     ensures memory { IfErr result.1 (λ halt. halt ≡ OutOfMemory) }
     ensures store { store_of result.0 ≡ store_of program }
-    ensures images { HoldsImages V.told result.0 }
+    ensures images { HoldsImages V.Store result.0 }
 {
     match program {
         Program::Up { mut core } => {
@@ -187,9 +189,9 @@ fn verdict(is: bool) -> Line
 
 // Whether the core is what a replay of its log comes to. A failure that isn't the fuse's ends the run.
 fn compare<V: Store>(alloc: Global, core: &mut Core<Fuse<V>>) -> Result<Vec<u8>, Halt>
-    ensures ends { IfOk result (λ text. EndsComparison V.told V.may_leave V.moment V.left_since V.faults core.old text.items core.new) }
-    ensures fails { IfErr result (λ halt. FailsComparison V.told V.may_leave V.moment V.left_since V.faults halt core.old core.new.vault.store) }
-    ensures read { IsRead V.told V.may_leave V.moment V.left_since V.faults core.old core.new }
+    ensures ends { IfOk result (λ text. EndsComparison V.Store core.old text.items core.new) }
+    ensures fails { IfErr result (λ halt. FailsComparison V.Store halt core.old core.new.vault.store) }
+    ensures read { IsRead V.Store core.old core.new }
 {
     let failed = core.vault.failed();
     match dali_verify::verify(alloc, core) {
@@ -209,9 +211,10 @@ fn compare<V: Store>(alloc: Global, core: &mut Core<Fuse<V>>) -> Result<Vec<u8>,
 }
 
 fn verify_of<V: Store>(alloc: Global, core: &mut Core<Fuse<V>>) -> Result<Vec<u8>, Halt>
-    ensures steps { IfOk result (λ text. VerifyIn V.told V.may_leave V.moment V.left_since V.faults core.old.system.state.stop core.old text.items (Program.Up core.new)) }
-    ensures fails { IfErr result (λ halt. FailsComparison V.told V.may_leave V.moment V.left_since V.faults halt core.old core.new.vault.store) }
-    ensures told { told_in V.told core.new.vault.store ≡ told_in V.told core.old.vault.store }
+    ensures steps { IfOk result
+        (λ text. VerifyIn V.Store core.old.system.state.stop core.old text.items (Program.Up core.new)) }
+    ensures fails { IfErr result (λ halt. FailsComparison V.Store halt core.old core.new.vault.store) }
+    ensures told { told_in V.Store core.new.vault.store ≡ told_in V.Store core.old.vault.store }
     ensures flags { FlagsStay core.old.regions.items core.new.regions.items }
 {
     match core.system.stopped() {
@@ -234,10 +237,11 @@ pub fn verify<V: Store, G: Gate>(
     setting: &Setting<'_, G>,
     program: Program<V>,
 ) -> (Program<V>, Result<Vec<u8>, Halt>)
-    requires images { HoldsImages V.told program }
-    ensures steps { IfOk result.1 (λ text. StepsVerify V.told V.may_leave V.moment V.left_since V.faults program text.items result.0) }
-    ensures fails { IfErr result.1 (λ halt. Fails V.told V.may_leave V.moment V.left_since V.faults setting.now.precheck halt commands.Verify program (store_of result.0)) }
-    ensures images { HoldsImages V.told result.0 }
+    requires images { HoldsImages V.Store program }
+    ensures steps { IfOk result.1 (λ text. StepsVerify V.Store program text.items result.0) }
+    ensures fails { IfErr result.1
+        (λ halt. Fails V.Store setting.now.precheck halt commands.Verify program (store_of result.0)) }
+    ensures images { HoldsImages V.Store result.0 }
 {
     match program {
         Program::Up { mut core } => {

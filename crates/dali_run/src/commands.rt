@@ -24,10 +24,12 @@ pub fn step<V: Store, G: Gate>(
 ) -> (Program<V>, Result<Vec<u8>, Halt>)
     requires limit { setting.now.limit ≤ 268435456 }
     requires fit { IsFit command.now }
-    requires images { HoldsImages V.told program }
-    ensures steps { IfOk result.1 (λ text. Steps V.told V.may_leave V.moment V.left_since V.faults setting.now.limit V.cuts setting.now.precheck program command.now text.items result.0) }
-    ensures fails { IfErr result.1 (λ halt. Fails V.told V.may_leave V.moment V.left_since V.faults setting.now.precheck halt command.now program (store_of result.0)) }
-    ensures images { HoldsImages V.told result.0 }
+    requires images { HoldsImages V.Store program }
+    ensures steps { IfOk result.1
+        (λ text. Steps V.Store setting.now.limit setting.now.precheck program command.now text.items result.0) }
+    ensures fails { IfErr result.1
+        (λ halt. Fails V.Store setting.now.precheck halt command.now program (store_of result.0)) }
+    ensures images { HoldsImages V.Store result.0 }
 {
     match command {
         Command::Size { index, heap } => size(setting, *index, *heap, program),

@@ -17,9 +17,9 @@ pub fn write_dump<K: Sink, V: Store>(
     sink: &mut K,
     mut store: V,
 ) -> (V, Result<(), Halt>)
-    ensures done { OnOk result.1 ((text : List ℕ) × Dumps V.told V.may_leave V.moment V.left_since V.faults store text result.0 × Appends (K.taken sink.old) text (K.taken sink.new)) }
-    ensures stops { IfErr result.1 (λ halt. DumpStops V.told V.may_leave V.moment V.left_since V.faults halt store result.0
-        (K.taken sink.old) (K.taken sink.new) (K.faults sink.old) (K.faults sink.new)) }
+    ensures done { OnOk result.1
+        ((text : List ℕ) × Dumps V.Store store text result.0 × Appends (K.taken sink.old) text (K.taken sink.new)) }
+    ensures stops { IfErr result.1 (λ halt. DumpStops V.Store K.Sink halt store result.0 sink.old sink.new) }
     ensures later { K.faults sink.old ≤ K.faults sink.new }
     ensures kept { (IsErrOf result.1 Halt.WriteFault → ⊥) → K.faults sink.new ≡ K.faults sink.old }
 {

@@ -131,8 +131,10 @@ fn made<V: Store, G: Gate>(
     requires within { AreWithin clients size }
     requires limit { setting.now.limit ≤ 268435456 }
     requires unchecked { setting.now.precheck ≡ false }
-    ensures made { IfOk result (λ core. IsMade V.told V.may_leave V.moment V.left_since V.faults setting.now.limit clients size store core × PlacesIn V.told core) }
-    ensures fails { IfErr result (λ s. (old : Program V) × IsDown old store × FailsIn V.told V.may_leave V.moment V.left_since V.faults s.halt (Size (index_regions clients size) (heap_regions clients size)) old s.store) }
+    ensures made { IfOk result
+        (λ core. IsMade V.Store setting.now.limit clients size store core × PlacesIn V.Store core) }
+    ensures fails { IfErr result (λ s. (old : Program V) × IsDown old store
+        × FailsIn V.Store s.halt (Size (index_regions clients size) (heap_regions clients size)) old s.store) }
 {
     let (program, made) = make(
         setting,
@@ -156,10 +158,11 @@ fn played<V: Store, G: Gate>(
     core: Core<Fuse<V>>,
 ) -> Result<Core<Fuse<V>>, Stopped<V>>
     requires placed { AreBlocks (map told_by told.now) }
-    requires places { PlacesIn V.told core }
+    requires places { PlacesIn V.Store core }
     requires unchecked { setting.now.precheck ≡ false }
-    ensures plays { IfOk result (λ played. IsRoundOf V.told V.may_leave V.moment V.left_since V.faults (map told_by told.now) core None played × PlacesIn V.told played) }
-    ensures stops { IfErr result (λ s. RoundStops V.told V.may_leave V.moment V.left_since V.faults (map told_by told.now) core s.halt s.store) }
+    ensures plays { IfOk result
+        (λ played. IsRoundOf V.Store (map told_by told.now) core None played × PlacesIn V.Store played) }
+    ensures stops { IfErr result (λ s. RoundStops V.Store (map told_by told.now) core s.halt s.store) }
 {
     let Ok(blocks) = blocks_of(setting.alloc, told) else {
         return Err(give_up(core, Halt::OutOfMemory));
@@ -185,8 +188,9 @@ fn crashed<V: Store, G: Gate>(
     core: Core<Fuse<V>>,
 ) -> Result<Program<V>, Stopped<V>>
     requires unchecked { setting.now.precheck ≡ false }
-    ensures crash { IfOk result (λ crashed. (text : List ℕ) × StepsCrash V.told V.may_leave V.moment V.left_since V.faults setting.now.limit V.cuts 0 (Up core) text crashed) }
-    ensures fails { IfErr result (λ s. FailsIn V.told V.may_leave V.moment V.left_since V.faults s.halt (Crash 0) (Up core) s.store) }
+    ensures crash { IfOk result
+        (λ crashed. (text : List ℕ) × StepsCrash V.Store setting.now.limit 0 (Up core) text crashed) }
+    ensures fails { IfErr result (λ s. FailsIn V.Store s.halt (Crash 0) (Up core) s.store) }
 {
     let (program, crashed) = crash(setting, 0, Program::Up { core });
     if let Err(halt) = crashed {
@@ -202,8 +206,8 @@ fn found<V: Store, G: Gate>(
 ) -> Result<Core<Fuse<V>>, Stopped<V>>
     requires limit { setting.now.limit ≤ 268435456 }
     requires unchecked { setting.now.precheck ≡ false }
-    ensures finds { IfOk result (λ core. (text : List ℕ) × Restarts V.told V.may_leave V.moment V.left_since V.faults setting.now.limit program text (Up core)) }
-    ensures fails { IfErr result (λ s. NotRestarted V.told V.may_leave V.moment V.left_since V.faults setting.now.limit program s.halt s.store) }
+    ensures finds { IfOk result (λ core. (text : List ℕ) × Restarts V.Store setting.now.limit program text (Up core)) }
+    ensures fails { IfErr result (λ s. NotRestarted V.Store setting.now.limit program s.halt s.store) }
 {
     let (program, found) = open(setting, program);
     if let Err(halt) = found {
@@ -226,8 +230,8 @@ fn run_generated<V: Store, G: Gate>(
     requires within { AreWithin clients size }
     requires limit { setting.now.limit ≡ 67108864 }
     requires unchecked { setting.now.precheck ≡ false }
-    ensures finds { IfOk result (λ core. GeneratorFinds V.told V.may_leave V.moment V.left_since V.faults V.cuts clients size number store core) }
-    ensures ends { IfErr result (λ s. GeneratorEnds V.told V.may_leave V.moment V.left_since V.faults V.cuts clients size number s.halt store s.store) }
+    ensures finds { IfOk result (λ core. GeneratorFinds V.Store clients size number store core) }
+    ensures ends { IfErr result (λ s. GeneratorEnds V.Store clients size number s.halt store s.store) }
 {
     let Ok(blocks) = blocks(setting.alloc, clients, size, number) else {
         return Err(Stopped {
@@ -284,9 +288,10 @@ pub fn generate<K: Sink, V: Store, G: Gate>(
     requires within { AreWithin clients size }
     requires limit { setting.now.limit ≡ 67108864 }
     requires unchecked { setting.now.precheck ≡ false }
-    ensures done { OnOk result.1 ((text : List ℕ) × Generates V.told V.may_leave V.moment V.left_since V.faults V.cuts clients size number store text result.0 × Appends (K.taken sink.old) text (K.taken sink.new)) }
-    ensures stops { IfErr result.1 (λ halt. GeneratorHalts V.told V.may_leave V.moment V.left_since V.faults V.cuts clients size number halt store result.0
-        (K.taken sink.old) (K.taken sink.new) (K.faults sink.old) (K.faults sink.new)) }
+    ensures done { OnOk result.1 ((text : List ℕ) × Generates V.Store clients size number store text result.0
+        × Appends (K.taken sink.old) text (K.taken sink.new)) }
+    ensures stops { IfErr result.1
+        (λ halt. GeneratorHalts V.Store K.Sink clients size number halt store result.0 sink.old sink.new) }
     ensures later { K.faults sink.old ≤ K.faults sink.new }
     ensures kept { (IsErrOf result.1 Halt.WriteFault → ⊥) → K.faults sink.new ≡ K.faults sink.old }
 {

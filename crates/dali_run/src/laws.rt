@@ -32,7 +32,7 @@ use dali_store::Store;
 /// its round, its `crash` and its `restart`, and of the store that comes back. It writes no lines of its round; the answers that its
 /// clients got count. Nobody pokes in it, so of damage nothing is asked.
 pub fn acknowledged_commits_survive<V: Store>()
-    ensures { AcknowledgedSurvive V.told V.may_leave V.moment V.left_since V.faults V.cuts }
+    ensures { AcknowledgedSurvive V.Store }
 {}
 
 /// What lines acknowledge, in an example (`dali_transcripts::laws::a_conflict`): of two clients that insert one key the first dies,
@@ -53,22 +53,22 @@ pub fn worked_lines_acknowledge_their_commit()
 /// on from. Of the store that comes back it is said of each of the files that a crash may leave by itself, if no damage escapes from
 /// them. Of `gen` nothing is asked of damage.
 pub fn runs_survive<V: Store>()
-    ensures { RunsSurvive V.told V.may_leave V.moment V.left_since V.faults V.cuts }
+    ensures { RunsSurvive V.Store }
 {}
 
 /// Where no region was poked since the core was made, and the engine runs before the clean-up of dead transactions and behind it,
 /// `show` prints just the records that the log is expected to leave. Those of its unflushed records are included, and `verify`
 /// never says that they differ. So it is at each point of a run, and the states of a run are such points, as `runs_survive` says.
 pub fn what_nobody_poked_is_as_expected<V: Store>()
-    ensures shows { UnpokedShows V.told V.may_leave V.faults }
-    ensures verifies { UnpokedVerifies V.told V.may_leave V.faults }
+    ensures shows { UnpokedShows V.Store }
+    ensures verifies { UnpokedVerifies V.Store }
 {}
 
 /// An audit outside of a round names just the regions whose stray writes don't cancel. Let it answer from a point of a run. Then
 /// its list has a region exactly if the exclusive-or of the masks that were written to it astray isn't 0, in whichever of its words
 /// they were.
 pub fn a_lone_audit_names_stray_writes<V: Store>()
-    ensures { (precheck : Bool) → LoneAuditTells V.told V.may_leave V.moment V.left_since V.faults precheck }
+    ensures { (precheck : Bool) → LoneAuditTells V.Store precheck }
 {}
 
 /// The lines tell all stray writes. At each state of a script's run, while the program is up, the masks that were written astray to
@@ -80,8 +80,8 @@ pub fn a_lone_audit_names_stray_writes<V: Store>()
 /// store that was handed in only files of this program. No damage is to escape where a command that was run gives the memory up, as
 /// in `runs_survive`; at the end it may.
 pub fn pokes_are_told<V: Store>()
-    ensures named { (limit : ℕ) (precheck : Bool) → StraysAreNamed V.told V.may_leave V.moment V.left_since V.faults limit V.cuts precheck }
-    ensures told { (limit : ℕ) (precheck : Bool) → PokesAreTold V.told V.may_leave V.moment V.left_since V.faults limit V.cuts precheck }
+    ensures named { (limit : ℕ) (precheck : Bool) → StraysAreNamed V.Store limit precheck }
+    ensures told { (limit : ℕ) (precheck : Bool) → PokesAreTold V.Store limit precheck }
 {}
 
 /// A failure of the store shows in its count. Let a crash leave of the store that was handed in only files of this program, and let
@@ -89,8 +89,8 @@ pub fn pokes_are_told<V: Store>()
 /// the store's own count of faults rose, a lone `poke`, `audit` or `checkpoint` too. Or this count and the calls that the fuse
 /// failed come to 2^64 - 1 or more. So it is of a generated run, whose round counts too; of the damage nothing is asked there.
 pub fn store_faults_rise<V: Store>()
-    ensures generated { GeneratorFaultsRise V.told V.may_leave V.moment V.left_since V.faults V.cuts }
-    ensures scripts { (limit : ℕ) (precheck : Bool) → StoreFaultsRise V.told V.may_leave V.moment V.left_since V.faults limit V.cuts precheck }
+    ensures generated { GeneratorFaultsRise V.Store }
+    ensures scripts { (limit : ℕ) (precheck : Bool) → StoreFaultsRise V.Store limit precheck }
 {}
 
 /// A run comes to its end. Let the words be `run`, with its options or without. Let the source have the bytes of a script,
@@ -99,7 +99,7 @@ pub fn store_faults_rise<V: Store>()
 /// faults rises: the source's and the sink's in the run, the store's in the command that ended it. Then the status is `Done`,
 /// or memory was refused.
 pub fn runs_complete<V: Store>()
-    ensures { (limit : ℕ) (precheck : Bool) → RunsComplete V.told V.may_leave V.moment V.left_since V.faults limit V.cuts precheck }
+    ensures { (limit : ℕ) (precheck : Bool) → RunsComplete V.Store limit precheck }
 {}
 
 /// What a generated run writes follows from its three numbers alone. Let the words be to generate, and let a crash leave of the store
@@ -107,20 +107,20 @@ pub fn runs_complete<V: Store>()
 /// empty map, each client's one after another, whatever their order among the clients was. Of damage nothing is asked, as no script of
 /// `gen` pokes.
 pub fn the_summary_follows_from_the_numbers<V: Store>()
-    ensures { SummaryDepends V.told V.may_leave V.moment V.left_since V.faults V.cuts }
+    ensures { SummaryDepends V.Store }
 {}
 
 /// What is asked of damage within a round may be asked at its end. Take the files that a crash left at some moment within it. If
 /// no damage escapes from them at the memory of the round's end, none escaped at the point of the round that they came from.
 pub fn the_end_of_a_round_tells_its_damage<V: Store>()
-    ensures { EndsTellRounds V.told V.may_leave V.faults }
+    ensures { EndsTellRounds V.Store }
 {}
 
 /// Without stray writes no damage escapes. So it is at each point of a run where no region was poked since the core was made, and
 /// at each moment within a round, if no region was poked at its end. So it is at each state of a run whose script has no `poke`,
 /// alone or in a block, as that of `gen` has none. A crash may leave of the store that was handed in only files of this program.
 pub fn runs_without_pokes_are_honest<V: Store>()
-    ensures cores { CoresAreHonest V.told V.may_leave V.faults }
-    ensures rounds { RoundsAreHonest V.told V.may_leave V.faults }
-    ensures runs { RunsAreHonest V.told V.may_leave V.moment V.left_since V.faults V.cuts }
+    ensures cores { CoresAreHonest V.Store }
+    ensures rounds { RoundsAreHonest V.Store }
+    ensures runs { RunsAreHonest V.Store }
 {}

@@ -33,14 +33,16 @@ pub fn play<V: Store, G: Gate>(
     core: Core<Fuse<V>>,
 ) -> (Core<Fuse<V>>, Result<Vec<Transcript>, Halt>)
     requires placed { AreBlocks (map told_of blocks.now) }
-    requires places { PlacesIn V.told core }
-    ensures plays { IfOk result.1 (λ transcripts. Plays V.told V.may_leave V.faults setting.now.precheck true (map told_of blocks.now) core transcripts.items result.0) }
+    requires places { PlacesIn V.Store core }
+    ensures plays { IfOk result.1 (λ transcripts. Plays V.Store setting.now.precheck true (map told_of blocks.now) core
+        transcripts.items result.0) }
     ensures tell { IfOk result.1 (λ transcripts. TellAll (map told_of blocks.now) transcripts.items) }
-    ensures lost { OnErr result.1 ((played : Played V.told V.may_leave V.moment V.left_since V.faults setting.now.precheck (map told_of blocks.now) core result.0.vault.store) × (played.whole ≡ false)) }
-    ensures longer { IsNoShorter (told_in V.told) core.vault result.0.vault }
-    ensures any_moment { RightWithin V.told V.may_leave V.moment V.left_since V.faults core result.0 }
+    ensures lost { OnErr result.1 ((played : Played V.Store setting.now.precheck (map told_of blocks.now) core
+        result.0.vault.store) × (played.whole ≡ false)) }
+    ensures longer { IsNoShorter (told_in V.Store) core.vault result.0.vault }
+    ensures any_moment { RightWithin V.Store core result.0 }
     ensures memory { IfErr result.1 (λ halt. halt ≡ OutOfMemory) }
-    ensures places { PlacesIn V.told result.0 }
+    ensures places { PlacesIn V.Store result.0 }
 {
     let (core, transcripts, end) = round(
         setting.alloc,
@@ -62,11 +64,13 @@ fn round_over<V: Store, G: Gate>(
     core: Core<Fuse<V>>,
 ) -> (Core<Fuse<V>>, Result<Vec<u8>, Halt>)
     requires placed { AreBlocks (map told_by told.now) }
-    requires places { PlacesIn V.told core }
-    ensures runs { IfOk result.1 (λ text. RunsRound V.told V.may_leave V.moment V.left_since V.faults setting.now.precheck (map told_by told.now) core text.items result.0) }
-    ensures lost { OnErr result.1 (LostOver V.told V.may_leave V.moment V.left_since V.faults setting.now.precheck (map told_by told.now) core result.0.vault.store) }
+    requires places { PlacesIn V.Store core }
+    ensures runs { IfOk result.1
+        (λ text. RunsRound V.Store setting.now.precheck (map told_by told.now) core text.items result.0) }
+    ensures lost { OnErr result.1
+        (LostOver V.Store setting.now.precheck (map told_by told.now) core result.0.vault.store) }
     ensures memory { IfErr result.1 (λ halt. halt ≡ OutOfMemory) }
-    ensures places { PlacesIn V.told result.0 }
+    ensures places { PlacesIn V.Store result.0 }
 {
     let Ok(blocks) = blocks_of(setting.alloc, told) else {
         return (core, Err(Halt::OutOfMemory));
@@ -88,11 +92,13 @@ pub fn round_of<V: Store, G: Gate>(
     program: Program<V>,
 ) -> (Program<V>, Result<Vec<u8>, Halt>)
     requires placed { AreBlocks (map told_by told.now) }
-    requires images { HoldsImages V.told program }
-    ensures steps { IfOk result.1 (λ text. StepsRound V.told V.may_leave V.moment V.left_since V.faults setting.now.precheck told.now program text.items result.0) }
-    ensures lost { OnErr result.1 (Lost V.told V.may_leave V.moment V.left_since V.faults setting.now.precheck (map told_by told.now) program (store_of result.0)) }
+    requires images { HoldsImages V.Store program }
+    ensures steps { IfOk result.1
+        (λ text. StepsRound V.Store setting.now.precheck told.now program text.items result.0) }
+    ensures lost { OnErr result.1
+        (Lost V.Store setting.now.precheck (map told_by told.now) program (store_of result.0)) }
     ensures memory { IfErr result.1 (λ halt. halt ≡ OutOfMemory) }
-    ensures images { HoldsImages V.told result.0 }
+    ensures images { HoldsImages V.Store result.0 }
 {
     match program {
         Program::Up { core } => {
@@ -140,10 +146,12 @@ fn alone_over<V: Store, G: Gate>(
     core: Core<Fuse<V>>,
 ) -> (Core<Fuse<V>>, Result<Vec<u8>, Halt>)
     requires placed { AreBlocks (told_alone (act_of command.now)) }
-    requires places { PlacesIn V.told core }
-    ensures acts { IfOk result.1 (λ text. ActsAlone V.told V.may_leave V.moment V.left_since V.faults setting.now.precheck (act_of command.now) core text.items result.0) }
-    ensures ends { IfErr result.1 (λ halt. AloneEnds V.told V.may_leave V.moment V.left_since V.faults setting.now.precheck halt (act_of command.now) core result.0.vault.store) }
-    ensures places { PlacesIn V.told result.0 }
+    requires places { PlacesIn V.Store core }
+    ensures acts { IfOk result.1
+        (λ text. ActsAlone V.Store setting.now.precheck (act_of command.now) core text.items result.0) }
+    ensures ends { IfErr result.1
+        (λ halt. AloneEnds V.Store setting.now.precheck halt (act_of command.now) core result.0.vault.store) }
+    ensures places { PlacesIn V.Store result.0 }
 {
     let Ok(block) = block_alone(setting.alloc, command) else {
         return (core, Err(Halt::OutOfMemory));
@@ -170,10 +178,12 @@ pub fn alone<V: Store, G: Gate>(
     program: Program<V>,
 ) -> (Program<V>, Result<Vec<u8>, Halt>)
     requires placed { AreBlocks (told_alone (act_of command.now)) }
-    requires images { HoldsImages V.told program }
-    ensures steps { IfOk result.1 (λ text. StepsAlone V.told V.may_leave V.moment V.left_since V.faults setting.now.precheck name (act_of command.now) program text.items result.0) }
-    ensures ends { IfErr result.1 (λ halt. AloneEndsIn V.told V.may_leave V.moment V.left_since V.faults setting.now.precheck halt (act_of command.now) program (store_of result.0)) }
-    ensures images { HoldsImages V.told result.0 }
+    requires images { HoldsImages V.Store program }
+    ensures steps { IfOk result.1
+        (λ text. StepsAlone V.Store setting.now.precheck name (act_of command.now) program text.items result.0) }
+    ensures ends { IfErr result.1
+        (λ halt. AloneEndsIn V.Store setting.now.precheck halt (act_of command.now) program (store_of result.0)) }
+    ensures images { HoldsImages V.Store result.0 }
 {
     match program {
         Program::Up { core } => {

@@ -26,7 +26,7 @@ pub const SCRIPT_LIMIT: usize = 1_048_576;
 // All of the source is read, then the script.
 fn read_script<S: Source>(alloc: Global, source: &mut S) -> Result<Script, Halt>
     ensures read { IfOk result (λ script. Spells (S.left source.old) script (S.left source.new)) }
-    ensures fails { IfErr result (λ halt. NotRead (S.left source.old) (S.left source.new) (S.faults source.old) (S.faults source.new) halt) }
+    ensures fails { IfErr result (λ halt. NotRead S.Source source.old source.new halt) }
     ensures kept { (IsErrOf result Halt.ReadFault → ⊥) → S.faults source.new ≡ S.faults source.old }
 {
     let bytes = read_all(alloc, source, SCRIPT_LIMIT)?;
@@ -46,11 +46,12 @@ fn run_command<K: Sink, V: Store, G: Gate>(
 ) -> (Program<V>, Result<(), Halt>)
     requires limit { setting.now.limit ≤ 268435456 }
     requires fit { IsFit command.now }
-    requires images { HoldsImages V.told program }
-    ensures done { OnOk result.1 ((text : List ℕ) × Steps V.told V.may_leave V.moment V.left_since V.faults setting.now.limit V.cuts setting.now.precheck program command.now text result.0 × Appends (K.taken sink.old) text (K.taken sink.new)) }
-    ensures stops { IfErr result.1 (λ halt. CommandStops V.told V.may_leave V.moment V.left_since V.faults setting.now.limit V.cuts setting.now.precheck halt command.now program result.0
-        (K.taken sink.old) (K.taken sink.new) (K.faults sink.old) (K.faults sink.new)) }
-    ensures images { HoldsImages V.told result.0 }
+    requires images { HoldsImages V.Store program }
+    ensures done { OnOk result.1 ((text : List ℕ) × Steps V.Store setting.now.limit setting.now.precheck program
+        command.now text result.0 × Appends (K.taken sink.old) text (K.taken sink.new)) }
+    ensures stops { IfErr result.1 (λ halt. CommandStops V.Store K.Sink setting.now.limit setting.now.precheck halt
+        command.now program result.0 sink.old sink.new) }
+    ensures images { HoldsImages V.Store result.0 }
     ensures later { K.faults sink.old ≤ K.faults sink.new }
     ensures kept { (IsErrOf result.1 Halt.WriteFault → ⊥) → K.faults sink.new ≡ K.faults sink.old }
 {
@@ -73,9 +74,10 @@ fn run_script<K: Sink, V: Store, G: Gate>(
 ) -> (V, Result<(), Halt>)
     requires limit { setting.now.limit ≤ 268435456 }
     requires fit { AreFit script.now }
-    ensures whole { OnOk result.1 (RanWhole V.told V.may_leave V.moment V.left_since V.faults setting.now.limit V.cuts setting.now.precheck store script.now (K.taken sink.old) (K.taken sink.new) result.0) }
-    ensures stops { IfErr result.1 (λ halt. ScriptStops V.told V.may_leave V.moment V.left_since V.faults setting.now.limit V.cuts setting.now.precheck halt store script.now result.0
-        (K.taken sink.old) (K.taken sink.new) (K.faults sink.old) (K.faults sink.new)) }
+    ensures whole { OnOk result.1 (RanWhole V.Store setting.now.limit setting.now.precheck store script.now
+        (K.taken sink.old) (K.taken sink.new) result.0) }
+    ensures stops { IfErr result.1 (λ halt. ScriptStops V.Store K.Sink setting.now.limit setting.now.precheck halt store
+        script.now result.0 sink.old sink.new) }
     ensures later { K.faults sink.old ≤ K.faults sink.new }
     ensures kept { (IsErrOf result.1 Halt.WriteFault → ⊥) → K.faults sink.new ≡ K.faults sink.old }
 {
@@ -98,8 +100,8 @@ pub fn run_source<S: Source, K: Sink, V: Store, G: Gate>(
     store: V,
 ) -> (V, Result<(), Halt>)
     requires limit { setting.now.limit ≤ 268435456 }
-    ensures ended { EndedScript V.told V.may_leave V.moment V.left_since V.faults setting.now.limit V.cuts setting.now.precheck
-        (course S.left S.faults K.taken K.faults source.old source.new sink.old sink.new store result.0) (K.taken sink.new) (K.faults sink.new) (status_in result.1) }
+    ensures ended { EndedScript V.Store setting.now.limit setting.now.precheck (course S.Source K.Sink source.old
+        source.new sink.old sink.new store result.0) (K.taken sink.new) (K.faults sink.new) (status_in result.1) }
     ensures later { K.faults sink.old ≤ K.faults sink.new }
     ensures kept { (IsErrOf result.1 Halt.WriteFault → ⊥) → K.faults sink.new ≡ K.faults sink.old }
     ensures read { (status_in result.1 ≡ statuses.ReadFault → ⊥) → S.faults source.new ≡ S.faults source.old }

@@ -33,9 +33,10 @@ pub fn size<V: Store, G: Gate>(
 ) -> (Program<V>, Result<Vec<u8>, Halt>)
     requires sizes { AreInRange (sizes_of index heap) }
     requires limit { setting.now.limit ≤ 268435456 }
-    ensures steps { IfOk result.1 (λ text. StepsSize V.told V.may_leave V.moment V.left_since V.faults setting.now.limit index heap program text.items result.0) }
-    ensures fails { IfErr result.1 (λ halt. Fails V.told V.may_leave V.moment V.left_since V.faults setting.now.precheck halt (commands.Size index heap) program (store_of result.0)) }
-    ensures images { HoldsImages V.told result.0 }
+    ensures steps { IfOk result.1 (λ text. StepsSize V.Store setting.now.limit index heap program text.items result.0) }
+    ensures fails { IfErr result.1
+        (λ halt. Fails V.Store setting.now.precheck halt (commands.Size index heap) program (store_of result.0)) }
+    ensures images { HoldsImages V.Store result.0 }
 {
     let Ok(geometry) = Geometry::new(index, heap) else {
         unreachable!()
@@ -72,9 +73,10 @@ pub fn open<V: Store, G: Gate>(
     program: Program<V>,
 ) -> (Program<V>, Result<Vec<u8>, Halt>)
     requires limit { setting.now.limit ≤ 268435456 }
-    ensures steps { IfOk result.1 (λ text. StepsRestart V.told V.may_leave V.moment V.left_since V.faults setting.now.limit program text.items result.0) }
-    ensures fails { IfErr result.1 (λ halt. Fails V.told V.may_leave V.moment V.left_since V.faults setting.now.precheck halt commands.Restart program (store_of result.0)) }
-    ensures images { HoldsImages V.told result.0 }
+    ensures steps { IfOk result.1 (λ text. StepsRestart V.Store setting.now.limit program text.items result.0) }
+    ensures fails { IfErr result.1
+        (λ halt. Fails V.Store setting.now.precheck halt commands.Restart program (store_of result.0)) }
+    ensures images { HoldsImages V.Store result.0 }
 {
     let store = program.into_store();
     let failed = store.failed();
@@ -97,9 +99,10 @@ pub fn crash<V: Store, G: Gate>(
     choice: u32,
     program: Program<V>,
 ) -> (Program<V>, Result<Vec<u8>, Halt>)
-    ensures steps { IfOk result.1 (λ text. StepsCrash V.told V.may_leave V.moment V.left_since V.faults setting.now.limit V.cuts choice program text.items result.0) }
-    ensures fails { IfErr result.1 (λ halt. Fails V.told V.may_leave V.moment V.left_since V.faults setting.now.precheck halt (commands.Crash choice) program (store_of result.0)) }
-    ensures images { HoldsImages V.told result.0 }
+    ensures steps { IfOk result.1 (λ text. StepsCrash V.Store setting.now.limit choice program text.items result.0) }
+    ensures fails { IfErr result.1
+        (λ halt. Fails V.Store setting.now.precheck halt (commands.Crash choice) program (store_of result.0)) }
+    ensures images { HoldsImages V.Store result.0 }
 {
     let mut store = program.into_store().into_inner();
     match store.cut(choice) {
@@ -117,11 +120,11 @@ pub fn fuse<V: Store>(
     passes: u64,
     program: Program<V>,
 ) -> (Program<V>, Result<Vec<u8>, Halt>)
-    requires images { HoldsImages V.told program }
+    requires images { HoldsImages V.Store program }
     ensures steps { IfOk result.1 (λ text. StepsFuse passes program text.items result.0) }
     ensures memory { IfErr result.1 (λ halt. halt ≡ OutOfMemory) }
     ensures store { inner (store_of result.0) ≡ inner (store_of program) }
-    ensures images { HoldsImages V.told result.0 }
+    ensures images { HoldsImages V.Store result.0 }
 {
     let text = text_of_line(alloc, &Line::Fuse { passes });
     match program {

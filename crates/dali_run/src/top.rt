@@ -34,8 +34,8 @@ fn run_task<S: Source, K: Sink, V: Store, G: Gate>(
     gate: &G,
 ) -> (V, Result<(), Halt>)
     requires range { IsInRange task }
-    ensures ended { Ended V.told V.may_leave V.moment V.left_since V.faults V.cuts (Some task)
-        (course S.left S.faults K.taken K.faults source.old source.new sink.old sink.new store result.0) (K.taken sink.new) (K.faults sink.new) (status_in result.1) }
+    ensures ended { Ended V.Store (Some task) (course S.Source K.Sink source.old source.new sink.old sink.new store
+        result.0) (K.taken sink.new) (K.faults sink.new) (status_in result.1) }
     ensures later { K.faults sink.old ≤ K.faults sink.new }
     ensures kept { (IsErrOf result.1 Halt.WriteFault → ⊥) → K.faults sink.new ≡ K.faults sink.old }
     ensures read { (status_in result.1 ≡ Status.ReadFault → ⊥) → S.faults source.new ≡ S.faults source.old }
@@ -76,8 +76,8 @@ fn run_words<S: Source, K: Sink, V: Store, G: Gate>(
     store: V,
     gate: &G,
 ) -> (V, Result<(), Halt>)
-    ensures ended { Ended V.told V.may_leave V.moment V.left_since V.faults V.cuts (meaning (map string_bytes words.now))
-        (course S.left S.faults K.taken K.faults source.old source.new sink.old sink.new store result.0) (K.taken sink.new) (K.faults sink.new) (status_in result.1) }
+    ensures ended { Ended V.Store (meaning (map string_bytes words.now)) (course S.Source K.Sink source.old source.new
+        sink.old sink.new store result.0) (K.taken sink.new) (K.faults sink.new) (status_in result.1) }
     ensures later { K.faults sink.old ≤ K.faults sink.new }
     ensures kept { (IsErrOf result.1 Halt.WriteFault → ⊥) → K.faults sink.new ≡ K.faults sink.old }
     ensures read { (status_in result.1 ≡ Status.ReadFault → ⊥) → S.faults source.new ≡ S.faults source.old }
@@ -129,7 +129,8 @@ pub fn run<R: Threads + Wait + Sync, S: Source, K: Sink, V: Store + Send, G: Gat
 ) -> (Status, V)
     ensures bad { result.0 ≡ Status.BadWords → meaning (map string_bytes words.now) ≡ None }
     ensures refused { meaning (map string_bytes words.now) ≡ None → (result.0 ≡ Status.BadWords) ⊎ (result.0 ≡ Status.OutOfMemory) }
-    ensures ended { HasEnded V.told V.may_leave V.moment V.left_since V.faults V.cuts (map string_bytes words.now) (course S.left S.faults K.taken K.faults source.old source.new sink.old sink.new store result.1) result.0 }
+    ensures ended { HasEnded V.Store (map string_bytes words.now)
+        (course S.Source K.Sink source.old source.new sink.old sink.new store result.1) result.0 }
 {
     let (store, outcome) = run_words(alloc, words, source, sink, store, gate);
     let status = finish(sink, outcome);

@@ -51,13 +51,6 @@ context_taken n item.Open s e = rw (start_is_out s.place e) refl
 context_taken n (item.Client m) s e = refl
 context_taken n item.End s e = rw e refl
 context_taken n item.Begin s e = rw (between_is_in s.place e) refl
-context_taken n (item.Insert k v) s e = rw (transaction_is_in s.place e) refl
-context_taken n (item.Update k v) s e = rw (transaction_is_in s.place e) refl
-context_taken n (item.Delete k) s e = rw (transaction_is_in s.place e) refl
-context_taken n (item.Get k) s e = rw (transaction_is_in s.place e) refl
-context_taken n (item.Die m) s e = rw (transaction_is_in s.place e) refl
-context_taken n item.Commit s e = rw (transaction_is_in s.place e) refl
-context_taken n item.Abort s e = rw (transaction_is_in s.place e) refl
 context_taken n (item.Poke r w m) s e = by_test (is_in_block s.place) refl
   where
     by_test : (b : Bool) → is_in_block s.place ≡ b → context_of (taken n (item.Poke r w m) s) ≡ next n (item.Poke r w m) (context_of s)
@@ -80,6 +73,7 @@ context_taken n item.Show s e = rw (outside_is_out s.place e) refl
 context_taken n item.Verify s e = rw (outside_is_out s.place e) refl
 context_taken n item.Next s e = rw (outside_is_out s.place e) refl
 context_taken n (item.Fuse m) s e = rw (outside_is_out s.place e) refl
+context_taken n _ s e = rw (transaction_is_in s.place e) refl
 
 -- ---- the lines so far
 abbrev pub open_lines : Bool → ℕ → List ClientCommand → List Item

@@ -18,6 +18,7 @@ use Rattle.dali_record.proofs.Survivors.{begin_is}
 use Rattle.dali_history.specs.History.{IsHistory}
 use Rattle.dali_history.proofs.Places.{get_from_Contains}
 use Rattle.dali_room.specs.Room.{inserts, IsPlain, AllAnswer}
+use Rattle.dali_counts.proofs.Begins.{one_begin}
 use Rattle.dali_system.specs.Run.{first_of, fail_step, failed_first}
 use Rattle.dali_system.specs.State.{CoreState, TxnRow, row_of, state_in, state_of}
 use Rattle.dali_transcripts.specs.Words.{Said, StoreFailed}
@@ -37,7 +38,6 @@ use Rattle.dali_served.specs.Free.{fits_log, AllFit, HasNoRows, inserts_in, told
 use Rattle.dali_served.proofs.AtHome.{IsTold}
 use Rattle.dali_served.proofs.Alone.{log_is_steady}
 use Rattle.dali_served.proofs.Apart.{IsHome, told_by_each, none_gives_way}
-use Rattle.dali_served.proofs.Begins.{one_begin}
 use Rattle.dali_served.proofs.Calm.{IsCalm, Made, all_made}
 use Rattle.dali_served.proofs.Commits.{commits_once}
 use Rattle.dali_served.proofs.Counted.{all_answered, few_inserts, all_counted, blocks_same}

@@ -16,7 +16,6 @@ pub mod Law
 pub mod AtHome
 pub mod Apart
 pub mod Calm
-pub mod Begins
 pub mod Whole
 pub mod Finding
 pub mod Counted

@@ -49,6 +49,7 @@ use Rattle.dali_calls.proofs.Wholes.{back_next}
 use Rattle.dali_calls.proofs.Answering.{done_follows}
 use Rattle.dali_calls.proofs.Following.{refused_rests}
 use Rattle.dali_calls.proofs.Stepping.{done_is_step}
+use Rattle.dali_calls.proofs.Operating.{steps_on}
 use Rattle.dali_single.specs.Stands.{core, IsAtRest, AtPlan}
 use Rattle.dali_single.specs.declared.error.CallError.{CallError}
 use Rattle.dali_single.specs.declared.error.StepError.{StepError}
@@ -58,17 +59,15 @@ use Rattle.dali_facts.specs.Undos.{MayBePerformed}
 use Rattle.dali_single.specs.Single.{Leads, MayCall, IsAnswered, IsRefusedAt, IsAsBefore, IsHalfDone, Fails, AreCovered, Keeps}
 use Rattle.dali_single.specs.Operated.{IsLeftOf}
 use Rattle.dali_single.specs.Advanced.{Led, Advanced, Finished, AreLeftOf, Halts, GivenUp}
-use Rattle.dali_single.proofs.Leading.{leads_there, steps_on, stays_free}
+use Rattle.dali_single.proofs.Leading.{leads_there, stays_free}
 use Rattle.dali_single.proofs.Going.{row_there, alive, stays, none_operated, goes_further}
 
 -- ---- the lock
 covered : (o : Option Mode) (b : Bool) → covers (Some (stronger_mode o (if b then Shared else Exclusive))) (not b) ≡ true
-covered None true = refl
-covered None false = refl
 covered (Some Shared) true = refl
 covered (Some Shared) false = refl
-covered (Some Exclusive) true = refl
-covered (Some Exclusive) false = refl
+covered _ true = refl
+covered _ false = refl
 
 both_same : (t k : ℕ) → ((t == t) && (k == k)) ≡ true
 both_same t k = ap (λ (b : Bool). b && (k == k)) ((Decides-eqb t t).1 refl) ∙ (Decides-eqb k k).1 refl

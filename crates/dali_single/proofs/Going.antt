@@ -1,12 +1,10 @@
 -- A plan goes on by one operation.
 use Rattle.std.proofs.Common.{inl, inr, ◌≡◌, ℕ, ◌-◌, Bool, true, false, List, [], ◌∷◌, ◌++◌, Option, Some, None, IsSome, IfSome, refl, sym, ap, subst, ◌∙◌, append_assoc, length, slice_get, slice_set, option_map}
 use Rattle.std.proofs.lemmas.List.{append-nil, set-set}
-use Rattle.std.specs.Prelude.{◌==◌, if◌then◌else◌}
-use Rattle.std.specs.Option.{option_map_or}
+use Rattle.std.specs.Prelude.{◌==◌}
 use Rattle.std.specs.FinMap.{get}
 use Rattle.std.proofs.lemmas.List.{length-set}
 use Rattle.dali_lists.proofs.Lists.{set_same, get_set}
-use Rattle.dali_lists.proofs.Numbers.{eqb-self}
 use Rattle.dali_geometry.specs.Sizes.{Sizes}
 use Rattle.dali_geometry.specs.Places.{regions}
 use Rattle.dali_record.specs.declared.operations.Op.{Op}
@@ -20,7 +18,6 @@ use Rattle.dali_region.specs.State.{RegionState, touched}
 use Rattle.dali_att.specs.declared.state.State.{State}
 use Rattle.dali_att.specs.declared.state.State.TheVariants.{Live}
 use Rattle.dali_att.specs.Table.{Table, undos_at, with_row, with_undo, without_last}
-use Rattle.dali_att.proofs.Changes.{get-with_row}
 use Rattle.dali_system.specs.State.{TxnRow, SystemState, VaultState, CoreState, row_of, state_of, state_in}
 use Rattle.dali_system.specs.Steps.{op_logged, back_logged, undo_kept}
 use Rattle.dali_system.specs.Keeps.{HasRoom, IsFree, with_region, with_touched}
@@ -32,23 +29,19 @@ use Rattle.dali_core.proofs.Guards.{some_row}
 use Rattle.dali_calls.specs.Steps.{call_key, IsBlockOf}
 use Rattle.dali_calls.specs.Plans.{Planned, plan_next, undo_next, is_back, went_back, with_operation, GoesOn, IsWhole}
 use Rattle.dali_calls.specs.Followed.{Follows, HoldsCall, IsReady}
+use Rattle.dali_calls.specs.Operating.{Goes}
 use Rattle.dali_calls.proofs.Wholes.{back_next}
 use Rattle.dali_calls.proofs.Following.{onward_follows, back_follows, drop_append}
 use Rattle.dali_calls.proofs.Stepping.{onward_is_step, back_is_step}
+use Rattle.dali_calls.proofs.Operating.{steps_on}
+use Rattle.dali_calls.proofs.Rows.{row_here, row_apart, undos_in}
 use Rattle.dali_single.specs.Stands.{core, IsAtRest, AtPlan}
-use Rattle.dali_single.specs.Operated.{Goes, Operated, IsLeftOf}
+use Rattle.dali_single.specs.Operated.{Operated, IsLeftOf}
 use Rattle.dali_single.specs.Single.{is_end, IsOwnStep, Leads}
 use Rattle.dali_single.specs.Advanced.{Led, Advanced}
-use Rattle.dali_single.proofs.Leading.{leads_on, one_step, leads_there, steps_on, stays_free}
+use Rattle.dali_single.proofs.Leading.{leads_on, one_step, leads_there, stays_free}
 
 -- ---- the row of the transaction
-
-pub row_here : (m : Table Pending) (t : ℕ) (f : TxnRow → TxnRow) → get (with_row m t f) t ≡ option_map f (get m t)
-row_here m t f = get-with_row m t f t ∙ ap (λ (b : Bool). if b then option_map f (get m t) else get m t) (eqb-self t)
-
-abbrev pub undos_in : Option TxnRow → List Pending
-undos_in row = option_map_or (λ (r : TxnRow). r.undos) row []
-
 -- a change that leaves the state, and whose undos are those of g
 pub record Changes (old new : Option TxnRow) (us vs : List Pending) : Type 0 where
   pub there : IsSome old → IsSome new
@@ -75,9 +68,6 @@ pub changes_popped : (m : Table Pending) (t : ℕ) (us : List Pending) → Chang
 changes_popped m t us = subst (λ (row : Option TxnRow). Changes (get m t) row us (drop_last us)) (sym (row_here m t without_last)) (changes_popped_in (get m t) us)
 
 -- ---- the rows of others
-pub row_apart : (m : Table Pending) (t u : ℕ) (f : TxnRow → TxnRow) → (t == u) ≡ false → get (with_row m t f) u ≡ get m u
-row_apart m t u f e = get-with_row m t f u ∙ ap (λ (b : Bool). if b then option_map f (get m t) else get m u) e
-
 pub kept_apart : (m : Table Pending) (t u : ℕ) (b : Block) (o : Option Undo) → (t == u) ≡ false → get (undo_kept m t b o) u ≡ get m u
 kept_apart m t u b None e = refl
 kept_apart m t u b (Some w) e = row_apart m t u (with_undo (record { key = b.key; region = b.region; undo = w })) e

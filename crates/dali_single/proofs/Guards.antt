@@ -15,14 +15,16 @@ use Rattle.dali_system.specs.State.{TxnRow, SystemState, row_of, state_of, state
 use Rattle.dali_system.specs.Steps.{begun}
 use Rattle.dali_calls.specs.declared.plan.Phase.TheVariants.{Calling}
 use Rattle.dali_calls.specs.Plans.{Planned}
+use Rattle.dali_calls.specs.Others.{PromisesStay}
+use Rattle.dali_calls.proofs.Others.{promises_same}
 use Rattle.dali_single.specs.Stands.{IsAtRest}
 use Rattle.dali_facts.specs.Undos.{MayBePerformed}
 use Rattle.dali_core.specs.Served.{Served}
 use Rattle.dali_core.specs.Promised.{promised_to}
-use Rattle.dali_single.specs.Single.{AreCovered, Keeps, OthersStay, PromisesStay}
+use Rattle.dali_single.specs.Single.{AreCovered, Keeps, OthersStay}
 use Rattle.dali_single.specs.Settling.{MayFree, settle_room}
 use Rattle.dali_single.specs.Others.{IsReady}
-use Rattle.dali_single.proofs.Promising.{promises_same, begun_promises, begun_others, settling_waits}
+use Rattle.dali_single.proofs.Promising.{begun_promises, begun_others, settling_waits}
 use Rattle.dali_single.specs.Advanced.{Advanced}
 
 row_begun : (y : SystemState) → row_of (begun y) y.next ≡ Some fresh_row

@@ -1,5 +1,4 @@
 pub mod Lists
-pub mod Holding
 pub mod Leading
 pub mod Measure
 pub mod Writing

@@ -1,5 +1,5 @@
 -- How many operations a call has left at most: each one that goes on with it leaves fewer.
-use Rattle.std.proofs.Common.{◌≡◌, ℕ, ◌+◌, ◌-◌, ◌*◌, ◌<◌, ◌≤◌, Bool, true, false, ◌&&◌, List, [], ◌∷◌, Option, Some, None, refl, sym, ap, subst, ◌∙◌, arith, length, length-append}
+use Rattle.std.proofs.Common.{◌≡◌, ℕ, ◌+◌, ◌-◌, ◌*◌, ◌<◌, ◌≤◌, Bool, true, false, ◌&&◌, List, Option, Some, None, refl, sym, ap, subst, ◌∙◌, arith, length, length-append}
 use Rattle.std.specs.Prelude.{◌==◌, if◌then◌else◌, nat_lt, bytes_eq, ⊤}
 use Rattle.std.proofs.lemmas.Bool.{ltb-true}
 use Rattle.dali_geometry.specs.Sizes.{Sizes}
@@ -20,6 +20,7 @@ use Rattle.dali_calls.specs.declared.stage.Stage.TheVariants.{Walking as StageWa
 use Rattle.dali_calls.specs.Steps.{progress_of, IsAt}
 use Rattle.dali_calls.specs.Plans.{Planned, undo_next, plan_next, is_back, went_back, GoesOn, IsWhole}
 use Rattle.dali_calls.proofs.Wholes.{back_next}
+use Rattle.dali_calls.proofs.Undoing.{drop_one}
 use Rattle.dali_single.specs.Operated.{Operated}
 use Rattle.dali_record.specs.Calls.{Progress, Fresh, Walking, Nowhere, Somewhere, Storing, Adding, Removing, Finished, follow, after_look, after_read, after_change, after_kill_cell, after_kill_entry, after_put, after_add, when, on_item, look_next, put_next, store_next, add_next, cell_next, entry_next}
 
@@ -157,11 +158,6 @@ within s call _ at = tt
 
 abbrev pub plan_left : Planned → ℕ
 plan_left p = 2 * ops_left p.geometry (progress_of p.call p.stage) + length p.changes
-
-pub drop_one : (us : List Pending) (u : Pending) → last_of us ≡ Some u → length (drop_last us) < length us
-drop_one [] u e = absurd cc
-drop_one (v ∷ []) u e = omega arith
-drop_one (v ∷ w ∷ us) u e = let rest = drop_one (w ∷ us) u e in omega (arith, rest)
 
 last_there : (us : List Pending) (o : Option Pending) → last_of us ≡ o → (let n : Option (ℕ × Op) = None in undo_next o ≡ n → ⊥) → length (drop_last us) < length us
 last_there us None e f = absurd (f refl)

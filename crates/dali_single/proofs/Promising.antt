@@ -16,24 +16,17 @@ use Rattle.dali_core.specs.Promised.{Promised, promised_to, used}
 use Rattle.std.specs.FinMap.{get, insert, remove}
 use Rattle.dali_lists.proofs.Members.{all_weaker}
 use Rattle.dali_core.proofs.Totals.{own_changes, others_stay}
-use Rattle.dali_single.specs.Single.{OthersStay, PromisesStay}
+use Rattle.dali_calls.specs.Others.{PromisesStay}
+use Rattle.dali_calls.proofs.Others.{promises_same}
+use Rattle.dali_single.specs.Single.{OthersStay}
 use Rattle.dali_single.specs.Settling.{MayFree, settle_room}
 use Rattle.dali_single.specs.Others.{SettlingWaits}
-
-pub promises_same : (s z : Served) (t : ℕ) → z.promised ≡ s.promised → PromisesStay s t z
-promises_same s z t e u apart = ap (λ (m : Promised). promised_to m u) e
-
-pub promises_further : (s m z : Served) (t : ℕ) → PromisesStay s t m → PromisesStay m t z → PromisesStay s t z
-promises_further s m z t first second u apart = second u apart ∙ first u apart
 
 pub promises_used : (s z : Served) (t n : ℕ) → z.promised ≡ used s.promised t n → PromisesStay s t z
 promises_used s z t n e u apart = ap (λ (m : Promised). promised_to m u) e ∙ (others_stay s.promised t u n apart).1
 
 pub promises_put : (s z : Served) (t n : ℕ) → z.promised ≡ insert s.promised t n → PromisesStay s t z
 promises_put s z t n e u apart = ap (λ (m : Promised). promised_to m u) e ∙ (others_stay s.promised t u n apart).0
-
-pub promises_ended : (s z : Served) (t : ℕ) → z.promised ≡ remove s.promised t → PromisesStay s t z
-promises_ended s z t e u apart = ap (λ (m : Promised). promised_to m u) e ∙ (others_stay s.promised t u 0 apart).2
 
 -- who has ended is promised nothing
 pub released : (s z : Served) (t : ℕ) → z.promised ≡ remove s.promised t → promised_to z.promised t ≡ 0

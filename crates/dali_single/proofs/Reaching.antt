@@ -1,16 +1,11 @@
 -- The region that a plan wants is there, and what it came to when it wants none.
 use Rattle.std.proofs.Common.{◌≡◌, ℕ, ◌<◌, Bool, true, false, List, Option, Some, None, refl, sym, ap, subst, ◌∙◌, arith, length, slice_get, slice_set}
-use Rattle.std.specs.Prelude.{nat_lt, nat_le}
-use Rattle.std.proofs.lemmas.Bool.{ltb-true}
-use Rattle.dali_lists.proofs.Tests.{right_true}
-use Rattle.dali_geometry.specs.Sizes.{Sizes}
-use Rattle.dali_geometry.specs.Places.{regions, is_index, is_heap}
+use Rattle.dali_geometry.specs.Places.{regions}
 use Rattle.dali_record.specs.declared.operations.Op.{Op}
-use Rattle.dali_record.specs.declared.operations.Op.TheVariants.{Look, Add, KillEntry, FreeEntry, ReviveEntry}
 use Rattle.dali_record.specs.declared.operations.Pending.{Pending}
 use Rattle.dali_record.specs.Operations.{undo_op}
 use Rattle.dali_record.specs.Log.{last_of}
-use Rattle.dali_record.specs.Legal.{on_kind}
+use Rattle.dali_record.proofs.EpochRules.{kind_in}
 use Rattle.dali_region.specs.State.{RegionState}
 use Rattle.dali_system.specs.State.{SystemState}
 use Rattle.dali_core.specs.declared.want.Want.TheVariants.{Region, Done as AnswerIsNext}
@@ -40,20 +35,6 @@ wanted p r e = by_next (plan_next p) refl (e)
     by_next : (o : Option (ℕ × Op)) → plan_next p ≡ o → Region r ≡ want_of p → (op : Op) × (plan_next p ≡ Some (r, op))
     by_next None i e = absurd (nothing p.phase (e ∙ ap (want_in p.phase) i))
     by_next (Some o) i e = (o.1, i ∙ ap (λ (n : ℕ). let s : Option (ℕ × Op) = Some (n, o.1) in s) (sym (region_of r o.0 (e ∙ ap (want_in p.phase) i))))
-
-index_in : (s : Sizes) (r : ℕ) → is_index s r ≡ true → r < regions s
-index_in s r e = let less = ltb-true r s.index e in omega (arith, less)
-
-heap_in : (s : Sizes) (r : ℕ) → is_heap s r ≡ true → r < regions s
-heap_in s r e = ltb-true r (regions s) (right_true (nat_le s.index r) (nat_lt r (regions s)) e)
-
-pub kind_in : (s : Sizes) (r : ℕ) (op : Op) → on_kind s r op ≡ true → r < regions s
-kind_in s r Look e = index_in s r e
-kind_in s r (Add p) e = index_in s r e
-kind_in s r (KillEntry n) e = index_in s r e
-kind_in s r (FreeEntry n) e = index_in s r e
-kind_in s r (ReviveEntry n) e = index_in s r e
-kind_in s r _ e = heap_in s r e
 
 pub next_in : (p : Planned) (r : ℕ) (op : Op) → IsWhole p → plan_next p ≡ Some (r, op) → r < regions p.geometry
 next_in p r op w next = by_way (is_back p) refl

@@ -16,12 +16,12 @@ use Rattle.dali_core.specs.Refused.{stop_refusal}
 use Rattle.dali_core.specs.Served.{Served}
 use Rattle.dali_core.specs.TakenBack.{next_undo, want_of as undo_wanted}
 use Rattle.dali_calls.specs.Plans.{Planned, want_of, IsWhole}
+use Rattle.dali_calls.proofs.Undoing.{wanted_undo}
 use Rattle.dali_single.specs.declared.error.StepError.{StepError}
 use Rattle.dali_single.specs.declared.error.StepError.TheVariants.{System}
 use Rattle.dali_single.specs.Operated.{IsLeftOf}
 use Rattle.dali_single.specs.Refusals.{IsAnswerTo, IsRefusedOn, IsRefusedIn, IsUnfreed, IsStuck}
 use Rattle.dali_single.specs.Advanced.{Advanced, Halts}
-use Rattle.dali_single.proofs.Undoing.{wanted_undo}
 use Rattle.dali_single.proofs.Writing.{error_is}
 
 -- ---- the plan that wanted the region

@@ -20,6 +20,7 @@ use Rattle.dali_record.specs.Blocks.{made, changes_item}
 use Rattle.dali_record.specs.Legal.{Unbegun, Active, Working, Committed as Ending, txn_state, is_removal, dead_of, freeing_op, on_kind}
 use Rattle.dali_record.specs.Operations.{undo_op}
 use Rattle.dali_record.specs.Spelling.{Is64, IsUndo, IsBlock, IsOperation, is_solo}
+use Rattle.dali_record.proofs.EpochRules.{kind_in}
 use Rattle.dali_region.specs.State.{RegionState, latched, with_reads, touched, taken_back}
 use Rattle.dali_att.specs.declared.state.State.{State}
 use Rattle.dali_att.specs.declared.state.State.TheVariants.{Live, Committed}
@@ -33,25 +34,25 @@ use Rattle.dali_system.specs.Courses.{Frees, Ends, IsStep}
 use Rattle.dali_facts.specs.Plans.{AtWork}
 use Rattle.dali_facts.specs.Ends.{IsUnbegun, IsEnding}
 use Rattle.dali_facts.proofs.Ends.{commit_follows, commit_is_step, solo_follows, end_follows, others_leave}
+use Rattle.dali_calls.specs.Operating.{IsHeldBy, AreWritten, Goes}
 use Rattle.dali_calls.proofs.Stepping.{covers_all}
+use Rattle.dali_calls.proofs.Operating.{steps_on, goes_on, opened_by, held_open}
+use Rattle.dali_calls.proofs.Rows.{row_here, row_apart}
+use Rattle.dali_calls.proofs.Others.{holds_put, holds_further}
 use Rattle.dali_core.specs.declared.operation.Operation.{Operation}
 use Rattle.dali_core.specs.Served.{Served, solo_room, promised_for}
 use Rattle.dali_core.specs.Promised.{Promised, promised_to, used}
 use Rattle.dali_core.proofs.Totals.{own_changes}
 use Rattle.dali_single.specs.Stands.{core}
-use Rattle.dali_single.specs.Operated.{IsHeldBy, AreWritten, Goes, IsLeftOf}
+use Rattle.dali_single.specs.Operated.{IsLeftOf}
 use Rattle.dali_single.specs.declared.error.StepError.{StepError}
 use Rattle.dali_single.specs.Refusals.{IsUnfreed, IsStuck}
 use Rattle.dali_facts.specs.Undos.{MayBePerformed}
 use Rattle.dali_single.specs.Single.{OthersStay}
 use Rattle.dali_single.specs.Settling.{settle_room, IsPromised, MayFree, IsSoloOf, MayCommit, Commits, IsCommitted, IsSettled, IsLeft, left_behind, Freed, AreFreed}
-use Rattle.dali_single.proofs.Holding.{holds_put, holds_further}
 use Rattle.dali_single.proofs.Lists.{logged_on}
-use Rattle.dali_single.proofs.Leading.{leads_on, one_step, leads_there, steps_on, stays_free, goes_on}
-use Rattle.dali_single.proofs.Writing.{opened_by, held_open}
-use Rattle.dali_single.proofs.Going.{row_here, row_apart}
+use Rattle.dali_single.proofs.Leading.{leads_on, one_step, leads_there, stays_free}
 use Rattle.dali_single.proofs.Undoing.{ended_others, others_further}
-use Rattle.dali_single.proofs.Reaching.{kind_in}
 use Rattle.dali_single.proofs.Refusing.{stuck_there}
 
 -- ---- the operation

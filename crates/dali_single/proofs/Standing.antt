@@ -19,14 +19,15 @@ use Rattle.dali_system.specs.State.{SystemState, CoreState, hold_in}
 use Rattle.dali_system.specs.Steps.{op_logged, back_logged, solo_logged, done_logged, commit_logged, ended_logged, granted}
 use Rattle.dali_system.specs.Keeps.{IsFree, with_system, with_region, with_touched}
 use Rattle.dali_system.specs.Regions.{RegionStep, Latch, NoteReads, Update, TakeBack, Poke, Check, Die, Clean, IsOpen, MayChange, region_after}
-use Rattle.dali_system.specs.Courses.{Step, Begins, Operates, TakesBack, Frees, Answers, Commits, Ends, AuditBegins, AuditEnds, Locks as AsksLock, Refuses, OnRegion, Passes, Dies, Claims, GivesBack, Recovers, Stops, Checkpoints, Takes, Flushes, Faults, ReadFails, IsStep}
+use Rattle.dali_system.specs.Courses.{Step, Begins, Operates, TakesBack, Frees, Answers, Commits, Ends, AuditBegins, AuditEnds, Locks as AsksLock, Refuses, OnRegion, IsStep}
 use Rattle.dali_facts.proofs.Ends.{others_leave}
+use Rattle.dali_calls.specs.Operating.{IsOwn}
+use Rattle.dali_calls.proofs.Operating.{still_held}
+use Rattle.dali_calls.proofs.Rows.{row_apart}
 use Rattle.dali_single.specs.Stands.{core}
-use Rattle.dali_single.specs.Operated.{IsOwn}
 use Rattle.dali_single.specs.Single.{IsOwnStep, Leads, HoldsStay, StandAside}
 use Rattle.dali_single.specs.Others.{OwnStepStandsAside, OwnStepsStandAside, CommittedWaits}
-use Rattle.dali_single.proofs.Leading.{still_held}
-use Rattle.dali_single.proofs.Going.{row_apart, kept_apart}
+use Rattle.dali_single.proofs.Going.{kept_apart}
 use Rattle.dali_single.proofs.Calling.{lock_apart}
 use Rattle.dali_single.proofs.Undoing.{ended_others}
 use Rattle.dali_single.proofs.Settled.{commit_others, above}
@@ -196,17 +197,7 @@ own_aside precheck t L M c d (AsksLock v k m) s own = put_behind t L M c d (with
 })
 own_aside precheck t L M c d (Refuses v k m h) s own = absurd own
 own_aside precheck t L M c d (OnRegion r x) s own = put_behind t L M c d (with_region c r (region_after x s.0)) L s.3.0 s.3.1 (by_region t r L c s.0 x s.1 s.2.0 (own_here t x (slice_get c.regions r) s.0 s.1 own))
-own_aside precheck t L M c d (Passes b r) s own = absurd own
-own_aside precheck t L M c d (Dies v o) s own = absurd own
-own_aside precheck t L M c d (Claims v) s own = absurd own
-own_aside precheck t L M c d (GivesBack v o) s own = absurd own
-own_aside precheck t L M c d (Recovers r) s own = absurd own
-own_aside precheck t L M c d Stops s own = absurd own
-own_aside precheck t L M c d (Checkpoints b) s own = absurd own
-own_aside precheck t L M c d Takes s own = absurd own
-own_aside precheck t L M c d Flushes s own = absurd own
-own_aside precheck t L M c d (Faults n) s own = absurd own
-own_aside precheck t L M c d (ReadFails n) s own = absurd own
+own_aside precheck t L M c d _ s own = absurd own
 
 pub own_step_stands : OwnStepStandsAside
 own_step_stands precheck t L M c d x s own = own_aside precheck t L M c d x s own

@@ -1,11 +1,9 @@
 -- An undo is performed, and then the next one.
-use Rattle.std.proofs.Common.{inl, inr, ◌≡◌, ℕ, suc, ◌-◌, ◌<◌, Bool, true, false, List, [], ◌∷◌, ◌++◌, Option, Some, None, IsSomeAnd, IfSome, refl, sym, ap, subst, ◌∙◌, arith, length, slice_get, slice_set}
-use Rattle.std.specs.Prelude.{◌==◌, ◌^◌, if◌then◌else◌, nat_lt}
+use Rattle.std.proofs.Common.{inl, inr, ◌≡◌, ℕ, ◌<◌, Bool, false, List, [], ◌∷◌, ◌++◌, Option, Some, None, refl, sym, ap, subst, ◌∙◌, arith, length, slice_get, slice_set}
+use Rattle.std.specs.Prelude.{if◌then◌else◌}
 use Rattle.std.specs.FinMap.{get}
 use Rattle.std.specs.List.{AllByRecursion}
 use Rattle.std.proofs.lemmas.List.{length-set, append-nil}
-use Rattle.std.proofs.lemmas.Bool.{lt-ltb}
-use Rattle.std.proofs.lemmas.Bool.Decides.{Decides-eqb}
 use Rattle.dali_lists.proofs.Lists.{set_same, get_set}
 use Rattle.dali_lists.proofs.Members.{all_append, all_weaker}
 use Rattle.dali_geometry.specs.Places.{regions}
@@ -16,134 +14,47 @@ use Rattle.dali_record.specs.declared.records.Record.TheVariants.{Back, Ended}
 use Rattle.dali_record.specs.Operations.{undo_op}
 use Rattle.dali_record.specs.Log.{last_of, drop_last}
 use Rattle.dali_record.specs.Spelling.{Is64}
-use Rattle.dali_region.specs.State.{RegionState, latched, with_reads, touched, taken_back}
+use Rattle.dali_record.proofs.EpochRules.{kind_in}
+use Rattle.dali_region.specs.State.{RegionState, touched, taken_back}
 use Rattle.dali_att.specs.declared.state.State.{State}
 use Rattle.dali_att.specs.declared.state.State.TheVariants.{Live}
-use Rattle.dali_att.specs.Table.{undos_at, without_last, last_of as table_last}
+use Rattle.dali_att.specs.Table.{undos_at, without_last}
 use Rattle.dali_att.proofs.Changes.{get-ended}
 use Rattle.dali_locks.proofs.Kept.{locks_without_at}
 use Rattle.dali_system.specs.State.{SystemState, VaultState, state_of}
 use Rattle.dali_system.specs.Steps.{back_logged, ended_logged}
 use Rattle.dali_system.specs.Keeps.{may_log_in, with_region, with_touched}
-use Rattle.dali_system.specs.Regions.{RegionStep, TakeBack as TakesRegionBack, IsOpen}
+use Rattle.dali_system.specs.Regions.{RegionStep, IsOpen}
 use Rattle.dali_system.specs.Courses.{TakesBack, Ends, IsStep}
 use Rattle.dali_facts.proofs.Ends.{empty_end_is_step}
 use Rattle.dali_core.specs.declared.operation.Operation.{Operation}
 use Rattle.dali_core.specs.declared.take_back.TakeBack.{TakeBack}
 use Rattle.dali_core.specs.declared.want.Want.TheVariants.{Region}
-use Rattle.dali_core.specs.TakenBack.{next_undo, want_of, IsMadeOf, IsUndoBlock, IsUndoOn}
-use Rattle.dali_core.specs.UnderWay.{IsUnderWay}
+use Rattle.dali_core.specs.TakenBack.{next_undo, want_of, IsMadeOf, IsUndoBlock}
 use Rattle.dali_core.specs.Served.{Served}
+use Rattle.dali_calls.specs.Operating.{Goes, Undone}
 use Rattle.dali_calls.proofs.TakingBack.{taking_back_is_step}
 use Rattle.dali_calls.proofs.Following.{last_all}
+use Rattle.dali_calls.proofs.Operating.{steps_on}
+use Rattle.dali_calls.proofs.Rows.{row_apart}
+use Rattle.dali_calls.proofs.Undoing.{drop_one, wanted_undo, Rewritten, next_last, is_taken_back}
+use Rattle.dali_calls.proofs.Others.{holds_put, holds_further}
 use Rattle.dali_single.specs.Stands.{core}
-use Rattle.dali_single.specs.Operated.{IsHeldBy, AreWritten, Goes, IsLeftOf}
+use Rattle.dali_single.specs.Operated.{IsLeftOf}
 use Rattle.dali_facts.specs.Undos.{MayBePerformed}
 use Rattle.dali_facts.proofs.Undos.{all_dropped}
-use Rattle.dali_single.specs.Single.{OthersStay, IsGone, AreCovered, Keeps}
-use Rattle.dali_single.specs.Ending.{IsBackOf, IsAtWork, IsEnded, IsStillAtWork, Undone, UndoesFrom}
-use Rattle.dali_single.proofs.Holding.{holds_put, holds_further}
+use Rattle.dali_single.specs.Single.{OthersStay, AreCovered, Keeps}
+use Rattle.dali_single.specs.Ending.{IsBackOf, IsAtWork, IsEnded, IsStillAtWork, UndoesFrom}
 use Rattle.dali_single.proofs.Lists.{logged_on}
-use Rattle.dali_single.proofs.Leading.{leads_on, leads_there, steps_on, stays_free, goes_on}
-use Rattle.dali_single.proofs.Writing.{IsWay, IsSameWay, opened_by, held_open}
-use Rattle.dali_single.proofs.Going.{changes_popped, both_steps, alive, row_apart, row_there}
-use Rattle.dali_single.proofs.Reaching.{kind_in}
-use Rattle.dali_single.proofs.Measure.{drop_one}
+use Rattle.dali_single.proofs.Leading.{leads_on, leads_there, stays_free}
+use Rattle.dali_single.proofs.Going.{changes_popped, both_steps, alive, row_there}
 
 -- ---- the operation of an undo
-pub record Rewritten (p : TakeBack) (g : RegionState) (q : TakeBack) (h : RegionState) : Type 0 where
-  pub operation : Operation
-  pub is : q ≡ record p { operation = Some operation }
-  pub txn : operation.txn ≡ p.txn
-  pub of : IsUndoBlock p.next operation.block
-  pub on : IsUndoOn g.words p.next operation.block
-  pub steps : List RegionStep
-  pub goes : Goes p.txn g steps h
-  pub is_open : IsOpen h operation.txn operation.block
-
-abbrev pub IsMadeBack : TakeBack → RegionState → Option Operation → RegionState → Type 0
-IsMadeBack p g o g1 = IsSomeAnd o (λ o. (o.txn ≡ p.txn) × IsUndoBlock p.next o.block × IsUnderWay o.txn o.block o.left o.taken g1 × (g1 ≡ with_reads o.block.read (latched p.txn g)))
-
--- on the region's own words
-abbrev pub IsMadeOn : TakeBack → RegionState → Option Operation → Type 0
-IsMadeOn p g o = IsSomeAnd o (λ o. IsUndoOn g.words p.next o.block)
-
-pub way_back_of : (p : TakeBack) (g : RegionState) (o : Option Operation) (g1 : RegionState) → IsMadeBack p g o g1 → IsWay o g1
-way_back_of p g None g1 m = absurd m
-way_back_of p g (Some o) g1 m = m.2
-
-reads_fit : (o : Option Pending) (b : Block) → IsUndoBlock o b → b.read < 2 ^ 64
-reads_fit None b h = absurd h
-reads_fit (Some u) b h = h.spelled.read
-
-pub rewritten : (p p1 p2 : TakeBack) (g g1 g2 : RegionState) → g.hold ≡ None → IsMadeBack p g p1.operation g1 → IsMadeOn p g p1.operation → p1 ≡ record p { operation = p1.operation }
-    → IsSomeAnd p2.operation (λ o. IsOpen g2 o.txn o.block) → IsSameWay p1.operation p2.operation → p2 ≡ record p1 { operation = p2.operation } → AreWritten g1 g2
-    → Rewritten p g p2 g2
-rewritten p p1 p2 g g1 g2 free made on one opened same two w = by_both p1.operation p2.operation refl refl made on opened same
-  where
-    by_both : (a b : Option Operation) → p1.operation ≡ a → p2.operation ≡ b → IsMadeBack p g a g1 → IsMadeOn p g a → IsSomeAnd b (λ o. IsOpen g2 o.txn o.block) → IsSameWay a b → Rewritten p g p2 g2
-    by_both None b i j m n o s = absurd m
-    by_both (Some a) None i j m n o s = absurd o
-    by_both (Some a) (Some b) i j m n o s =
-        let goes = opened_by p.txn a.block g g1 g2 free (reads_fit p.next a.block m.1) m.3 w in
-        record {
-          operation = b;
-          is = two ∙ (ap (λ (x : TakeBack). record x { operation = p2.operation }) one ∙ ap (λ (x : Option Operation). record p { operation = x }) j);
-          txn = s.0 ∙ m.0;
-          of = subst (IsUndoBlock p.next) (sym s.1) m.1;
-          on = subst (IsUndoOn g.words p.next) (sym s.1) n;
-          steps = goes.0;
-          goes = goes.1;
-          is_open = o;
-        }
-
 pub back_left_over : (p q : TakeBack) (g h k : RegionState) → Rewritten p g q h → k ≡ taken_back h → IsLeftOf p.txn g k
-back_left_over p q g h k w is =
-    let held = held_open h w.operation.txn w.operation.block w.is_open in
-    inr (w.steps ++ TakesRegionBack ∷ [], goes_on p.txn g h k w.steps (TakesRegionBack ∷ []) w.goes (held.1, subst (λ (n : ℕ). IsHeldBy n h) w.txn held.0, sym is), ap (λ (x : RegionState). x.hold) is)
+back_left_over p q g h k w is = inr (is_taken_back p q g h k w is)
 
 pub back_as_before : (p q r : TakeBack) (g h : RegionState) → p.operation ≡ None → Rewritten p g q h → r ≡ record q { operation = None } → r ≡ p
 back_as_before p q r g h closed w is = is ∙ (ap (λ (x : TakeBack). record x { operation = None }) w.is ∙ ap (λ (o : Option Operation). record p { operation = o }) (sym closed))
-
-pub undone : (p q r : TakeBack) (g h k : RegionState) (y z : Served) → Rewritten p g q h
-    → IfSome q.operation (λ o. (z ≡ record y { state = back_logged y.state q.txn o.block }) × (k ≡ touched h))
-    → r ≡ record q { next = next_undo (undos_at z.state.table q.txn) q.down_to; operation = None } → y.state.stop ≡ None
-    → Undone p g y.state r k z.state
-undone p q r g h k y z w ok next runs =
-    let now : (z ≡ record y { state = back_logged y.state p.txn w.operation.block }) × (k ≡ touched h) = subst (λ (x : TakeBack). IfSome x.operation (λ o. (z ≡ record y { state = back_logged y.state x.txn o.block }) × (k ≡ touched h))) w.is ok in
-    record {
-      block = w.operation.block;
-      of = w.of;
-      on = w.on;
-      opened = h;
-      steps = w.steps;
-      goes = w.goes;
-      is_open = subst (λ (t : ℕ). IsOpen h t w.operation.block) w.txn w.is_open;
-      region = now.1;
-      runs = runs;
-      system = ap (λ (x : Served). x.state) now.0;
-      next = next ∙ ap (λ (x : TakeBack). record x { next = next_undo (undos_at z.state.table x.txn) x.down_to; operation = None }) w.is;
-    }
-
-pub promise_kept : (p q : TakeBack) (g h k : RegionState) (y z : Served) → Rewritten p g q h → IfSome q.operation (λ o. (z ≡ record y { state = back_logged y.state q.txn o.block }) × (k ≡ touched h)) → z.promised ≡ y.promised
-promise_kept p q g h k y z w ok =
-    ap (λ (x : Served). x.promised) (subst (λ (x : TakeBack). IfSome x.operation (λ o. (z ≡ record y { state = back_logged y.state x.txn o.block }) × (k ≡ touched h))) w.is ok).0
-
--- ---- the last undo
-last_same : (us : List Pending) → table_last us ≡ last_of us
-last_same [] = refl
-last_same (u ∷ []) = refl
-last_same (u ∷ v ∷ us) = let e : length (u ∷ v ∷ us) - 1 ≡ suc (length (v ∷ us) - 1) = omega arith in rw e (last_same (v ∷ us))
-
-next_last : (us : List Pending) (u : Pending) → next_undo us 0 ≡ Some u → last_of us ≡ Some u
-next_last us u e = by_test (nat_lt 0 (length us)) refl
-  where
-    by_test : (b : Bool) → nat_lt 0 (length us) ≡ b → last_of us ≡ Some u
-    by_test true i = sym (last_same us) ∙ (sym (ap (λ (b : Bool). if b then table_last us else None) i) ∙ e)
-    by_test false i = absurd (never (sym (ap (λ (b : Bool). if b then table_last us else None) i) ∙ e))
-      where
-        never : (let n : Option Pending = None in n ≡ Some u) → ⊥
-        never f = cc
 
 -- ---- one undo, in a core
 one_led : (L : List Record) (rs : List RegionState) (y : SystemState) (v : VaultState) (t : ℕ) (u : Pending) (b : Block) (g opened : RegionState) (xs : List RegionStep) → Is64 t → state_of y t ≡ Some Live
@@ -287,15 +198,6 @@ abort_ends rs rs' y y1 z t u none runs is L v work =
 pub ended_others : (y z : SystemState) (t : ℕ) → z ≡ ended_logged y t → OthersStay y t z
 ended_others y z t is = subst (λ (x : SystemState). OthersStay y t x) (sym is) (λ n e. (get-ended y.table t n ∙ ap (λ (b : Bool). if b then None else get y.table n) e, λ k. locks_without_at y.locks t n k ∙ ap (λ (b : Bool). if b then None else get y.locks (n, k)) e))
 
-pub ended_gone : (y z : SystemState) (t : ℕ) → z ≡ ended_logged y t → IsGone z t
-ended_gone y z t is = subst (λ (x : SystemState). IsGone x t) (sym is) (
-  get-ended y.table t t ∙ ap (λ (b : Bool). if b then None else get y.table t) self,
-  λ k. locks_without_at y.locks t t k ∙ ap (λ (b : Bool). if b then None else get y.locks (t, k)) self,
-)
-  where
-    self : (t == t) ≡ true
-    self = (Decides-eqb t t).1 refl
-
 pub others_further : (y m z : SystemState) (t : ℕ) → OthersStay y t m → OthersStay m t z → OthersStay y t z
 others_further y m z t a b n e = ((b n e).0 ∙ (a n e).0, λ k. (b n e).1 k ∙ (a n e).1 k)
 
@@ -316,24 +218,6 @@ fewer_undos m t b u lives is =
     omega (arith, popped, less)
 
 -- ---- the loop over all undos
-pub wanted_undo : (o : Option Pending) (r : ℕ) → Region r ≡ want_of o → (u : Pending) × (o ≡ Some u) × (u.region ≡ r)
-wanted_undo None r e = absurd cc
-wanted_undo (Some u) r e = (u, refl, cc)
-
-pub none_wanted : (us : List Pending) (o : Option Pending) → o ≡ next_undo us 0 → ((r : ℕ) → want_of o ≡ Region r → ⊥) → us ≡ []
-none_wanted [] o e f = refl
-none_wanted (u ∷ us) o e f = absurd (some (table_last (u ∷ us)) refl (last_some u us))
-  where
-    last_some : (v : Pending) (vs : List Pending) → (w : Pending) × (table_last (v ∷ vs) ≡ Some w)
-    last_some v [] = (v, refl)
-    last_some v (x ∷ vs) = let rest = last_some x vs in let n : length (v ∷ x ∷ vs) - 1 ≡ suc (length (x ∷ vs) - 1) = omega arith in (rest.0, rw n rest.1)
-
-    test : nat_lt 0 (length (u ∷ us)) ≡ true
-    test = lt-ltb 0 (length (u ∷ us)) (omega arith)
-
-    some : (p : Option Pending) → table_last (u ∷ us) ≡ p → (w : Pending) × (table_last (u ∷ us) ≡ Some w) → ⊥
-    some p i w = f w.0.region (ap want_of (e ∙ (ap (λ (b : Bool). if b then table_last (u ∷ us) else None) test ∙ w.1)))
-
 pub undo_region : (rs0 rs : List RegionState) (y0 y : SystemState) (t r : ℕ) (next : Option Pending) → UndoesFrom rs0 y0 t rs y → next ≡ next_undo (undos_at y.table t) 0 → Region r ≡ want_of next → r < length rs
 undo_region rs0 rs y0 y t r next goes is want =
     let u = wanted_undo next r want in

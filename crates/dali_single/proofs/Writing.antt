@@ -1,9 +1,8 @@
 -- The words of an operation are written, one after another, and the operation is logged.
-use Rattle.std.proofs.Common.{inr, ◌≡◌, ℕ, ◌+◌, ◌-◌, ◌<◌, Bool, true, false, List, [], ◌∷◌, ◌++◌, Option, Some, None, IsSome, IsSomeAnd, IfSome, Result, Ok, Err, refl, sym, ap, subst, ◌∙◌, length, arith}
-use Rattle.std.specs.Prelude.{◌^◌, not, ◌&&◌}
+use Rattle.std.proofs.Common.{inr, ◌≡◌, ℕ, Bool, true, false, List, [], ◌∷◌, ◌++◌, Option, Some, None, IsSomeAnd, IfSome, Result, Ok, Err, refl, sym, ap, subst, ◌∙◌}
+use Rattle.std.specs.Prelude.{not, ◌&&◌}
 use Rattle.dali_record.specs.declared.operations.Block.{Block}
 use Rattle.dali_record.specs.declared.records.Record.TheVariants.{Forward}
-use Rattle.dali_region.specs.declared.Hold.{Hold}
 use Rattle.dali_region.specs.State.{RegionState, latched, with_reads, touched, taken_back}
 use Rattle.dali_system.specs.State.{SystemState}
 use Rattle.dali_system.specs.Steps.{op_logged, back_logged}
@@ -15,51 +14,16 @@ use Rattle.dali_region.specs.Answers.{latch_answer}
 use Rattle.dali_core.specs.declared.error.SystemError.{SystemError}
 use Rattle.dali_core.specs.declared.error.SystemError.TheVariants.{OutOfMemory as Memory}
 use Rattle.dali_core.specs.Served.{Served}
-use Rattle.dali_core.specs.UnderWay.{IsUnderWay, IsUpdated}
+use Rattle.dali_core.specs.UnderWay.{IsUnderWay}
 use Rattle.dali_calls.specs.Steps.{call_key, IsBlockOf}
 use Rattle.dali_calls.specs.Plans.{Planned, plan_next, is_back, went_back, with_operation, commit_refusal, GoesOn}
+use Rattle.dali_calls.specs.Operating.{IsHeldBy, AreWritten, Goes}
+use Rattle.dali_calls.proofs.Operating.{goes_on, IsWay, IsSameWay, opened_by, held_open}
 use Rattle.dali_record.specs.Blocks.{IsSoundOn}
 use Rattle.dali_record.specs.Spelling.{record_length}
 use Rattle.dali_single.specs.declared.error.StepError.TheVariants.{System}
 use Rattle.dali_single.specs.Refusals.{IsAnswerTo, IsRefusedOn}
-use Rattle.dali_single.specs.Operated.{IsHeldBy, AreWritten, Goes, Operated, IsLeftOf}
-use Rattle.dali_single.proofs.Leading.{updates_on, updates_go, goes_on}
-
--- how many are left
-abbrev pub words_left : Option Operation → ℕ
-words_left None = 0
-words_left (Some o) = length o.block.after - o.taken
-
-abbrev pub IsWay : Option Operation → RegionState → Type 0
-IsWay o g = IsSomeAnd o (λ o. IsUnderWay o.txn o.block o.left o.taken g)
-
-abbrev pub IsSameWay : Option Operation → Option Operation → Type 0
-IsSameWay o p = IfSome o (λ o. IsSomeAnd p (λ p. (p.txn ≡ o.txn) × (p.block ≡ o.block)))
-
--- ---- one word more
-pub more_written : (g0 g h : RegionState) → AreWritten g0 g → IsUpdated g h → AreWritten g0 h
-more_written g0 g h w u = (w.0 ++ (u.0, u.1) ∷ [], updates_on g0 g h w.0 u.0 u.1 w.1 u.2 u.3)
-
-pub still_same : (a b c : Option Operation) → IsSameWay a b → IsSameWay b c → IsSameWay a c
-still_same None b c p q = tt
-still_same (Some o) None c p q = absurd p
-still_same (Some o) (Some b) None p q = absurd q
-still_same (Some o) (Some b) (Some c) p q = (q.0 ∙ p.0, q.1 ∙ p.1)
-
-pub fewer_left : (a b : Option Operation) (g h : RegionState) → IsWay a g → IsWay b h → IsSameWay a b → IfSome a (λ o. IsSomeAnd b (λ p. p.taken ≡ o.taken + 1)) → words_left b < words_left a
-fewer_left None b g h w v s t = absurd w
-fewer_left (Some a) None g h w v s t = absurd v
-fewer_left (Some a) (Some b) g h w v s t =
-    let same : length b.block.after ≡ length a.block.after = ap (λ (x : Block). length x.after) s.1 in
-    omega (arith, same, t, w.count, v.count)
-
--- ---- the region from its latch on
-pub opened_by : (t : ℕ) (b : Block) (g g1 g2 : RegionState) → g.hold ≡ None → b.read < 2 ^ 64 → g1 ≡ with_reads b.read (latched t g) → AreWritten g1 g2 → (xs : List RegionStep) × Goes t g xs g2
-opened_by t b g g1 g2 free fits is w =
-    let held : IsHeldBy t g1 = subst (IsHeldBy t) (sym is) (refl, refl) in
-    let rest = updates_go t g1 g2 w.0 held w.1 in
-    let first : Goes t g (Latch t ∷ NoteReads b.read ∷ []) g1 = (free, refl, (((refl, refl), fits), (refl, refl), sym is)) in
-    (Latch t ∷ NoteReads b.read ∷ [] ++ rest.0, goes_on t g g1 g2 (Latch t ∷ NoteReads b.read ∷ []) rest.0 first rest.1)
+use Rattle.dali_single.specs.Operated.{Operated, IsLeftOf}
 
 -- an operation leaves what the codeword tells of stray writes
 stray_kept : (t : ℕ) (g h : RegionState) (xs : List RegionStep) → Goes t g xs h → h.stray ≡ g.stray
@@ -112,9 +76,6 @@ written p p1 p2 g g1 g2 free made sound one opened same two w = by_both p1.opera
 pub way_of : (p : Planned) (g : RegionState) (o : Option Operation) (g1 : RegionState) → IsMade p g o g1 → IsWay o g1
 way_of p g None g1 m = absurd m
 way_of p g (Some o) g1 m = m.2
-
-pub held_open : (g : RegionState) (t : ℕ) (b : Block) → IsOpen g t b → IsHeldBy t g × IsSome g.hold
-held_open g t b o = (subst (λ (h : Option Hold). IsSomeAnd h (λ k. (k.txn ≡ t) × (k.dead ≡ false))) (sym o.hold) (refl, refl), subst (λ (h : Option Hold). IsSome h) (sym o.hold) refl)
 
 pub left_over : (p q : Planned) (g h k : RegionState) → Written p g q h → k ≡ taken_back h → IsLeftOf p.txn g k
 left_over p q g h k w is =

@@ -13,7 +13,8 @@ use Rattle.dali_system.specs.State.{CoreState, state_of}
 use Rattle.dali_system.specs.Courses.{Step, IsStep}
 use Rattle.dali_core.specs.Served.{Served}
 use Rattle.dali_core.specs.Promised.{promised_to}
-use Rattle.dali_single.specs.Single.{IsOwnStep, Leads, OthersStay, PromisesStay, StandAside}
+use Rattle.dali_calls.specs.Others.{PromisesStay}
+use Rattle.dali_single.specs.Single.{IsOwnStep, Leads, OthersStay, StandAside}
 use Rattle.dali_single.specs.Settling.{MayFree, IsCommitted, settle_room}
 
 abbrev pub OwnStepStandsAside : Type 0

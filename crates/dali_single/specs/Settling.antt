@@ -33,9 +33,10 @@ use Rattle.dali_system.specs.Courses.{Step, Commits as CommitsStep, Ends, IsStep
 use Rattle.dali_core.specs.Promised.{promised_to}
 use Rattle.dali_core.specs.Served.{Served, solo_room}
 use Rattle.dali_facts.specs.Ends.{IsUnbegun, IsEnding}
+use Rattle.dali_calls.specs.Operating.{Goes}
+use Rattle.dali_calls.specs.Others.{HoldsClear}
 use Rattle.dali_single.specs.Stands.{core}
-use Rattle.dali_single.specs.Operated.{Goes}
-use Rattle.dali_single.specs.Single.{Leads, OthersStay, HoldsClear, MayCall}
+use Rattle.dali_single.specs.Single.{Leads, OthersStay, MayCall}
 
 pub record MayFree (y : SystemState) (t : ℕ) (u : Pending) : Type 0 where
   pub removal : is_removal u.undo ≡ true

@@ -5,9 +5,6 @@
 --     Leads precheck t L c xs M d      these steps of t, none of which is such an end, lead from the log L and the core c to the log M and the core d
 --     OthersStay y t z         each other transaction has the row and the locks that it had
 --     HoldsStay t c d          it has the regions latched that it had
---     HoldsClear rs rs'        each region has the hold that it had, or none
---     PromisesStay s t z       it has the memory promised that it had
---     IsGone y t               t has no row, so nothing to take back, and no lock
 --     StandAside t L c M d     so it is, and the rules of the log have it where they had it
 --     MayCall L c t            t is between two calls, and has no region latched
 --     IsAnswered precheck L c t call a d       a call was answered: behind its operations comes its answer, and t may call again
@@ -18,7 +15,7 @@
 --     AreCovered y t           each undo of t may be performed: it is on a region of its kind, and t has its key alone
 --     RunCovers                so it is at each point of a run
 --     Keeps y t z              the system has the sizes that it had, t its state, and undos that are covered where they were; and others stay
-use Rattle.std.specs.Prelude.{◌≡◌, ◌==◌, ◌<◌, ◌≤◌, ◌↔◌, ◌⊎◌, ℕ, Bool, true, false, List, [], ◌∷◌, ◌++◌, Some, None, IsSomeAnd, IfSome, slice_get}
+use Rattle.std.specs.Prelude.{◌≡◌, ◌==◌, ◌<◌, ◌≤◌, ◌↔◌, ◌⊎◌, ℕ, Bool, true, false, List, [], ◌∷◌, ◌++◌, Some, IsSomeAnd, IfSome, slice_get}
 use Rattle.std.specs.List.{AllByRecursion}
 use Rattle.dali_record.specs.declared.records.Answer.{Answer}
 use Rattle.dali_record.specs.declared.records.Call.{Call}
@@ -26,25 +23,22 @@ use Rattle.dali_record.specs.declared.records.Record.{Record}
 use Rattle.dali_record.specs.declared.records.Record.TheVariants.{Done}
 use Rattle.dali_record.specs.Legal.{Working, is_level, txn_state}
 use Rattle.dali_region.specs.declared.Hold.{Hold}
-use Rattle.dali_region.specs.State.{RegionState}
 use Rattle.dali_locks.specs.declared.mode.LockAnswer.TheVariants.{Wait as LockWait, Busy as LockBusy}
 use Rattle.dali_locks.specs.Locks.{IsAnswer}
 use Rattle.dali_att.specs.Table.{undos_at}
-use Rattle.dali_system.specs.State.{SystemState, CoreState, row_of, state_of, hold_of, hold_in, lock_of}
+use Rattle.dali_system.specs.State.{SystemState, CoreState, row_of, state_of, hold_of, lock_of}
 use Rattle.dali_system.specs.Run.{Bases, RunsOn}
 use Rattle.dali_system.specs.Keeps.{IsFree, with_system}
 use Rattle.dali_system.specs.Steps.{refused}
 use Rattle.dali_system.specs.Courses.{Step, Operates, TakesBack, Frees, Answers, Commits, Ends, Locks, OnRegion, IsStep}
-use Rattle.dali_core.specs.Served.{Served}
-use Rattle.dali_core.specs.Promised.{promised_to}
 use Rattle.dali_facts.specs.Plans.{AtWork}
 use Rattle.dali_facts.specs.Undos.{MayBePerformed}
 use Rattle.dali_calls.specs.Steps.{call_key}
 use Rattle.dali_calls.specs.declared.plan.Phase.{Phase}
 use Rattle.dali_calls.specs.declared.plan.Phase.TheVariants.{Calling, Refused as GoesBack}
 use Rattle.dali_calls.specs.Plans.{Planned, mode_of, IsWhole}
+use Rattle.dali_calls.specs.Operating.{IsOwn}
 use Rattle.dali_single.specs.declared.error.StepError.{StepError}
-use Rattle.dali_single.specs.Operated.{IsOwn}
 use Rattle.dali_single.specs.Refusals.{IsRefusal, IsUnasked}
 use Rattle.dali_single.specs.Stands.{IsAtRest, AtPlan}
 use Rattle.dali_single.specs.declared.error.CallError.{CallError}
@@ -75,17 +69,8 @@ Leads precheck t L c (x ∷ xs) M d = (K : List Record) × (e : CoreState) × (I
 abbrev pub OthersStay : SystemState → ℕ → SystemState → Type 0
 OthersStay y t z = (u : ℕ) → (t == u) ≡ false → (row_of z u ≡ row_of y u) × ((k : ℕ) → lock_of z u k ≡ lock_of y u k)
 
-abbrev pub PromisesStay : Served → ℕ → Served → Type 0
-PromisesStay s t z = (u : ℕ) → (t == u) ≡ false → promised_to z.promised u ≡ promised_to s.promised u
-
-abbrev pub IsGone : SystemState → ℕ → Type 0
-IsGone y t = (row_of y t ≡ None) × ((k : ℕ) → lock_of y t k ≡ None)
-
 abbrev pub HoldsStay : ℕ → CoreState → CoreState → Type 0
 HoldsStay t c d = (u r : ℕ) (h : Hold) → (t == u) ≡ false → h.txn ≡ u → (hold_of c r ≡ Some h) ↔ (hold_of d r ≡ Some h)
-
-abbrev pub HoldsClear : List RegionState → List RegionState → Type 0
-HoldsClear rs rs' = (r : ℕ) → (hold_in (slice_get rs' r) ≡ hold_in (slice_get rs r)) ⊎ (hold_in (slice_get rs' r) ≡ None)
 
 pub record StandAside (t : ℕ) (L : List Record) (c : CoreState) (M : List Record) (d : CoreState) : Type 0 where
   pub sizes : d.system.sizes ≡ c.system.sizes

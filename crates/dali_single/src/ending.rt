@@ -6,31 +6,21 @@ ghost use Rattle.dali_record.specs.Spelling.{IsUndo};
 ghost use Rattle.dali_att.specs.declared.state.State.TheVariants.{Live};
 ghost use Rattle.dali_att.specs.Table.{undos_at};
 ghost use Rattle.dali_system.specs.State.{VaultState, state_of};
-ghost use Rattle.dali_system.specs.Regions.{IsOpen};
 ghost use Rattle.dali_core.specs.Promised.{promised_to};
 ghost use Rattle.dali_core.specs.TakenBack.{next_undo};
-ghost use Rattle.dali_core.specs.UnderWay.{IsUnderWay};
 ghost use Rattle.dali_calls.specs.Flags.{FlagsStay};
+ghost use Rattle.dali_calls.specs.Operating.{Undone};
+ghost use Rattle.dali_calls.specs.Others.{PromisesStay, IsGone, HoldsClear};
 ghost use Rattle.dali_single.specs.Stands.{core};
-ghost use Rattle.dali_single.specs.Operated.{AreWritten, IsLeftOf};
+ghost use Rattle.dali_single.specs.Operated.{IsLeftOf};
 ghost use Rattle.dali_single.specs.Refusals.{IsUnfreed, IsStuck};
-ghost use Rattle.dali_single.specs.Single.{AreCovered, Keeps, OthersStay, HoldsClear, PromisesStay, IsGone};
-ghost use Rattle.dali_single.specs.Ending.{IsAtWork, IsEnded, IsStillAtWork, Undone, UndoesFrom};
+ghost use Rattle.dali_single.specs.Single.{AreCovered, Keeps, OthersStay};
+ghost use Rattle.dali_single.specs.Ending.{IsAtWork, IsEnded, IsStillAtWork, UndoesFrom};
 
 use crate::error::StepError;
+use dali_calls::write_back;
 use dali_core::{System, TakeBack, Want};
 use dali_region::Region;
-
-// Writes all words of the open operation that performs an undo.
-fn write_back(back: &mut TakeBack, region: &mut Region)
-    requires { IsSomeAnd back.old.operation (λ o. IsUnderWay o.txn o.block o.left o.taken region.old) }
-    ensures is_open { IsSomeAnd back.new.operation (λ o. IsOpen region.new o.txn o.block) }
-    ensures same { IfSome back.old.operation (λ o. IsSomeAnd back.new.operation (λ p. (p.txn ≡ o.txn) × (p.block ≡ o.block))) }
-    ensures rest { back.new ≡ record back.old { operation = back.new.operation } }
-    ensures written { AreWritten region.old region.new }
-{
-    while back.update(region) {}
-}
 
 // Performs the undo that is last now, and logs its block.
 fn undo(back: &mut TakeBack, region: &mut Region, system: &mut System) -> Result<(), StepError>

@@ -1,27 +1,14 @@
 //! One operation of a plan, from its latch to its record.
-ghost use Rattle.std.specs.Prelude.{◌≡◌, None, IsSome, IsSomeAnd, IfSome, OnOk, OnErr, IfErr};
+ghost use Rattle.std.specs.Prelude.{◌≡◌, None, IsSome, OnOk, OnErr, IfErr};
 ghost use Rattle.dali_system.specs.State.{row_of};
-ghost use Rattle.dali_system.specs.Regions.{IsOpen};
-ghost use Rattle.dali_core.specs.UnderWay.{IsUnderWay};
-ghost use Rattle.dali_calls.specs.Plans.{plan_next, with_operation};
-ghost use Rattle.dali_single.specs.Operated.{AreWritten, Operated, IsLeftOf};
+ghost use Rattle.dali_calls.specs.Plans.{plan_next};
+ghost use Rattle.dali_single.specs.Operated.{Operated, IsLeftOf};
 ghost use Rattle.dali_single.specs.Refusals.{IsRefusedOn};
 
 use crate::error::StepError;
-use dali_calls::Plan;
+use dali_calls::{Plan, write_all};
 use dali_core::System;
 use dali_region::Region;
-
-// Writes all words of the open operation.
-fn write_all(plan: &mut Plan, region: &mut Region)
-    requires { IsSomeAnd plan.old.operation (λ o. IsUnderWay o.txn o.block o.left o.taken region.old) }
-    ensures is_open { IsSomeAnd plan.new.operation (λ o. IsOpen region.new o.txn o.block) }
-    ensures same { IfSome plan.old.operation (λ o. IsSomeAnd plan.new.operation (λ p. (p.txn ≡ o.txn) × (p.block ≡ o.block))) }
-    ensures rest { plan.new ≡ with_operation plan.old plan.new.operation }
-    ensures written { AreWritten region.old region.new }
-{
-    while plan.update(region) {}
-}
 
 // Makes the next operation of the plan on the region that it wants, and logs its block.
 pub(crate) fn operate(

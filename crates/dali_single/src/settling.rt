@@ -16,10 +16,12 @@ ghost use Rattle.dali_core.specs.Served.{solo_room};
 ghost use Rattle.dali_core.specs.UnderWay.{IsUnderWay};
 ghost use Rattle.dali_core.specs.declared.error.SystemError.TheVariants.{OutOfMemory as Memory};
 ghost use Rattle.dali_calls.specs.Flags.{FlagsStay};
+ghost use Rattle.dali_calls.specs.Operating.{AreWritten};
+ghost use Rattle.dali_calls.specs.Others.{PromisesStay, IsGone, HoldsClear};
 ghost use Rattle.dali_single.specs.Stands.{core};
-ghost use Rattle.dali_single.specs.Operated.{AreWritten, IsLeftOf};
+ghost use Rattle.dali_single.specs.Operated.{IsLeftOf};
 ghost use Rattle.dali_single.specs.Refusals.{IsUnfreed, IsStuck, IsLatched};
-ghost use Rattle.dali_single.specs.Single.{AreCovered, OthersStay, HoldsClear, PromisesStay, IsGone};
+ghost use Rattle.dali_single.specs.Single.{AreCovered, OthersStay};
 ghost use Rattle.dali_single.specs.Settling.{MayFree, Freed, MayCommit, Commits, IsCommitted, AreFreed, IsSettled, IsLeft, left_behind, settle_room, IsPromised};
 
 use crate::error::StepError;

@@ -21,11 +21,11 @@ use Rattle.dali_record.specs.Legal.{Working, Way, Onward, TakingBack, Unwinding,
 use Rattle.dali_history.specs.Serial.{value_after, call_key, values_after, value_step, on_key}
 use Rattle.dali_index.proofs.Worlds.{World, Flags, put_at}
 use Rattle.dali_index.proofs.Parts.{Part, put_at-own, put_at-beside}
-use Rattle.dali_slots.proofs.SlotUndos.{Leads, NoneOn, undone_part, undone_slot, slot_of, leads_first, leads_other, leads_stay}
+use Rattle.dali_slots.proofs.SlotUndos.{Leads, NoneOn, undone_part, undone_slot, slot_of, leads_first, leads_other}
 use Rattle.dali_slots.proofs.ValueSlots.{Stands, Reached}
 use Rattle.dali_slots.proofs.CallProgress.{Own, IsOn, somewhere}
 use Rattle.dali_slots.proofs.CallKey.{IsOff, off_other, off_on}
-use Rattle.dali_slots.proofs.RunningTxn.{Runs, Goes, OnOrOff, IsSafe, beyond, level_same}
+use Rattle.dali_slots.proofs.RunningTxn.{Runs, Goes, OnOrOff, IsSafe, beyond, level_same, runs_new}
 
 -- ---- equal calls and answers
 same_call_is : (d c : Call) → same_call d c ≡ true → d ≡ c
@@ -224,15 +224,7 @@ runs_back s W V F k o calls w p last more h g = record {
 
 -- a transaction that has nothing to do with the key yet
 pub runs_fresh : (s : Sizes) (F : Flags) (k : ℕ) (o : Option (List ℕ)) (P : Part) (calls : List (Call × Answer)) (w : Working) → on_key k calls ≡ [] → is_unwinding w.way ≡ false → IsOff k w.progress → NoneOn k (beyond w) → Stands s P o → Reached s F k P → Runs s F k o P calls w
-runs_fresh s F k o P calls w none still off clear stands reached = record {
-  value = o;
-  slots = P;
-  replayed = ap (values_after (Some o)) none;
-  stands = stands;
-  reached = reached;
-  leads = leads_stay s k (beyond w) P clear;
-  goes = by_way w.way still;
-}
+runs_fresh s F k o P calls w none still off clear stands reached = runs_new s F k o P calls w none clear stands reached (by_way w.way still)
   where
     by_way : (y : Way) → is_unwinding y ≡ false → Goes s F k P P o y w.progress
     by_way Onward f = inr (off, refl)

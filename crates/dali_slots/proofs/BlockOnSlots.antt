@@ -324,12 +324,7 @@ does_restore s image k r c n (a0 ∷ a1 ∷ a2 ∷ a3 ∷ a4 ∷ []) within kind
       flags_kept image r (write_all (words_in image r) (value_writes c n a0 a1 a2 a3 a4)) within.0 (word_zero (words_in image r) (value_writes c n a0 a1 a2 a3 a4) (omega arith)),
       refl,
     )
-does_restore s image k r c n [] within kind x xs h long = absurd (omega arith)
-does_restore s image k r c n (a0 ∷ []) within kind x xs h long = absurd (omega arith)
-does_restore s image k r c n (a0 ∷ a1 ∷ []) within kind x xs h long = absurd (omega arith)
-does_restore s image k r c n (a0 ∷ a1 ∷ a2 ∷ []) within kind x xs h long = absurd (omega arith)
-does_restore s image k r c n (a0 ∷ a1 ∷ a2 ∷ a3 ∷ []) within kind x xs h long = absurd (omega arith)
-does_restore s image k r c n (a0 ∷ a1 ∷ a2 ∷ a3 ∷ a4 ∷ a5 ∷ vs) within kind x xs h long = absurd (omega arith)
+does_restore s image k r c n _ within kind x xs h long = absurd (omega arith)
 
 -- ---- each operation
 pub performs : (s : Sizes) (image : List (List ℕ)) (k r : ℕ) (op : Op) → IsRegion s image r → on_kind s r op ≡ true → Performs s image k r op

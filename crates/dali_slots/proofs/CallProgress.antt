@@ -216,6 +216,9 @@ somewhere s R (Some w) r i at stands below e =
     let y = x.2 in
     (w, stands, refl, x.0, x.1, cc (y))
 
+cell_there : (s : Sizes) (P R : Part) (w : List ℕ) (at : ℕ) (h : Lives s R w) → P ≡ R → at ≡ h.at → P (region_at at) (cell_at at) ≡ 1 ∷ h.count ∷ h.words
+cell_there s P R w at h was same = ap (λ (X : Part). X (region_at at) (cell_at at)) was ∙ ap (λ x. R (region_at x) (cell_at x)) same ∙ h.cell.0
+
 pub own_read :
     (s : Sizes) (W V : World) (F G : Flags) (k : ℕ) (R : Part) (v : Option (List ℕ)) (r i at : ℕ) (o : Outcome) (u : Option Undo) (p : Progress)
     → W k ≡ R → Stands s R v → r < s.index → R r i ≡ 1 ∷ at ∷ [] → Reached s F k R → is_place s at ≡ true → Does W F V G k (region_at at) (Read (cell_at at)) o u → after_read k at o ≡ Some p → Own s G k (V k) R v p × IsOn k p
@@ -227,14 +230,11 @@ own_read s W V F G k R v r i at o u p was stands below entry reached place h e =
     go : (w : List ℕ) × (l : Lives s R w) × (v ≡ Some w) × (r ≡ l.region) × (i ≡ l.slot) × (at ≡ l.at) → Own s G k (V k) R v p × IsOn k p
     go is = ⊎_elim found lost (h.1 (place_heap s at place).2 (place_heap s at place).3)
       where
-        cell : W k (region_at at) (cell_at at) ≡ 1 ∷ is.1.count ∷ is.1.words
-        cell = ap (λ (X : Part). X (region_at at) (cell_at at)) was ∙ ap (λ x. R (region_at x) (cell_at x)) is.5 ∙ is.1.cell.0
-
         found : (n : ℕ) × (xs : List ℕ) × (o ≡ Value (unpacked n xs)) × IsLive (W k (region_at at) (cell_at at)) n xs → Own s G k (V k) R v p × IsOn k p
         found a =
             let x : Some (Finished (Get k) (Got (unpacked a.0 a.1))) ≡ Some p = rw (a.2) at e in
             let same : p ≡ Finished (Get k) (Got (unpacked a.0 a.1)) = cc (x) in
-            let both : 1 ∷ a.0 ∷ a.1 ≡ 1 ∷ is.1.count ∷ is.1.words = sym a.3.0 ∙ cell in
+            let both : 1 ∷ a.0 ∷ a.1 ≡ 1 ∷ is.1.count ∷ is.1.words = sym a.3.0 ∙ cell_there s (W k) R is.0 at is.1 was is.5 in
             let n : a.0 ≡ is.1.count = cc (both) in
             let ws : a.1 ≡ is.1.words = cc (both) in
             let value : unpacked a.0 a.1 ≡ is.0 = rw (n, ws) (is.1.value) in
@@ -242,7 +242,7 @@ own_read s W V F G k R v r i at o u p was stands below entry reached place h e =
             rw (same, value) ((v, rw (is.2, test) refl, (λ z. refl), λ z. (subst (λ (X : Part). Stands s X v) (sym now) stands, rw (h.0.1, now) reached)), refl)
 
         lost : ((x : List ℕ) → o ≢ Value x) × ((n : ℕ) (xs : List ℕ) → is_size n ≡ true → W k (region_at at) (cell_at at) ≢ 1 ∷ n ∷ xs) → Own s G k (V k) R v p × IsOn k p
-        lost a = absurd (a.1 is.1.count is.1.words is.1.cell.1 cell)
+        lost a = absurd (a.1 is.1.count is.1.words is.1.cell.1 (cell_there s (W k) R is.0 at is.1 was is.5))
 
 pub own_change :
     (s : Sizes) (W V : World) (F G : Flags) (k : ℕ) (R : Part) (v : Option (List ℕ)) (r i at : ℕ) (w : List ℕ) (o : Outcome) (u : Option Undo) (p : Progress)
@@ -252,9 +252,6 @@ own_change s W V F G k R v r i at w o u p was stands below entry reached place v
     go : (x : List ℕ) × (l : Lives s R x) × (v ≡ Some x) × (r ≡ l.region) × (i ≡ l.slot) × (at ≡ l.at) → Own s G k (V k) R v p × IsOn k p
     go is = ⊎_elim found lost (h (place_heap s at place).2 (place_heap s at place).3)
       where
-        cell : W k (region_at at) (cell_at at) ≡ 1 ∷ is.1.count ∷ is.1.words
-        cell = ap (λ (X : Part). X (region_at at) (cell_at at)) was ∙ ap (λ x. R (region_at x) (cell_at x)) is.5 ∙ is.1.cell.0
-
         found : (n : ℕ) × (xs : List ℕ) × (o ≡ Changed) × (u ≡ Some (UndoRestore (cell_at at) n xs)) × IsLive (W k (region_at at) (cell_at at)) n xs × (V ≡ put_at W k (region_at at) (cell_at at) (1 ∷ length w ∷ packed w)) × (G ≡ F) → Own s G k (V k) R v p × IsOn k p
         found a =
             let x : Some (Finished (Update k w) AnswerOk) ≡ Some p = rw (a.2) at e in
@@ -267,7 +264,7 @@ own_change s W V F G k R v r i at w o u p was stands below entry reached place v
             still q j x xs low g = reached q j x xs low (sym (put_part-other R (region_at at) (cell_at at) (1 ∷ length w ∷ packed w) q j (inl (λ z. omega (arith, (place_heap s at place).1)))) ∙ g)
 
         lost : Stay W F V G u × (o ≢ Changed) × ((n : ℕ) (xs : List ℕ) → is_size n ≡ true → W k (region_at at) (cell_at at) ≢ 1 ∷ n ∷ xs) → Own s G k (V k) R v p × IsOn k p
-        lost a = absurd (a.2 is.1.count is.1.words is.1.cell.1 cell)
+        lost a = absurd (a.2 is.1.count is.1.words is.1.cell.1 (cell_there s (W k) R is.0 at is.1 was is.5))
 
 pub own_kill_cell :
     (s : Sizes) (W V : World) (F G : Flags) (k : ℕ) (R : Part) (v : Option (List ℕ)) (r i at : ℕ) (o : Outcome) (u : Option Undo) (p : Progress)
@@ -277,9 +274,6 @@ own_kill_cell s W V F G k R v r i at o u p was stands below entry place h e = go
     go : (x : List ℕ) × (l : Lives s R x) × (v ≡ Some x) × (r ≡ l.region) × (i ≡ l.slot) × (at ≡ l.at) → Own s G k (V k) R v p × IsOn k p
     go is = ⊎_elim found lost (h (place_heap s at place).2 (place_heap s at place).3)
       where
-        cell : W k (region_at at) (cell_at at) ≡ 1 ∷ is.1.count ∷ is.1.words
-        cell = ap (λ (X : Part). X (region_at at) (cell_at at)) was ∙ ap (λ x. R (region_at x) (cell_at x)) is.5 ∙ is.1.cell.0
-
         found : (n : ℕ) × (xs : List ℕ) × (o ≡ Killed) × (u ≡ Some (UndoReviveCell (cell_at at))) × IsLive (W k (region_at at) (cell_at at)) n xs × (V ≡ put_at W k (region_at at) (cell_at at) (2 ∷ n ∷ xs)) × (G ≡ F) → Own s G k (V k) R v p × IsOn k p
         found a =
             let x : Some (Removing k r i at) ≡ Some p = rw (a.2) at e in
@@ -288,7 +282,7 @@ own_kill_cell s W V F G k R v r i at o u p was stands below entry place h e = go
             rw same ((a.0, a.1, below, entry, place, put), refl)
 
         lost : Stay W F V G u × (o ≢ Killed) × ((n : ℕ) (xs : List ℕ) → is_size n ≡ true → W k (region_at at) (cell_at at) ≢ 1 ∷ n ∷ xs) → Own s G k (V k) R v p × IsOn k p
-        lost a = absurd (a.2 is.1.count is.1.words is.1.cell.1 cell)
+        lost a = absurd (a.2 is.1.count is.1.words is.1.cell.1 (cell_there s (W k) R is.0 at is.1 was is.5))
 
 pub own_kill_entry :
     (s : Sizes) (W V : World) (F G : Flags) (k : ℕ) (P R : Part) (v : Option (List ℕ)) (r i at : ℕ) (o : Outcome) (u : Option Undo) (p : Progress)

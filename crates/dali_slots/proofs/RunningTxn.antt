@@ -9,7 +9,6 @@ use Rattle.std.proofs.Math.Seq.{drop-append_seam}
 use Rattle.std.proofs.lemmas.Bool.Decides.{eqb_tells}
 use Rattle.std.proofs.lemmas.Bool.{eqb-true, and_parts}
 use Rattle.dali_geometry.specs.Sizes.{Sizes}
-use Rattle.dali_geometry.specs.Places.{is_place}
 use Rattle.dali_record.specs.declared.operations.Block.{Block}
 use Rattle.dali_record.specs.declared.operations.Undo.{Undo}
 use Rattle.dali_record.specs.declared.operations.Pending.{Pending}
@@ -178,17 +177,21 @@ runs_starts s t W V F G k o calls w b p some does kind value level h e = record 
     step : Leads s k (added_by b.key b.region b.undo ++ []) (V k) h.slots × OnOrOff s G k (V k) h.slots h.value p
     step = block_step s t W V F G k h.slots h.value b Fresh p [] some does kind value h.stands h.reached same (inr (tt, same)) e
 
--- a transaction whose calls on the key are all to come
-pub runs_first : (s : Sizes) (F : Flags) (k : ℕ) (o : Option (List ℕ)) (P : Part) (calls : List (Call × Answer)) (w : Working) → on_key k calls ≡ [] → is_onward w.way ≡ true → IsOff k w.progress → NoneOn k (beyond w) → Stands s P o → Reached s F k P → Runs s F k o P calls w
-runs_first s F k o P calls w none onward off clear stands reached = record {
+-- a transaction with no call on the key so far
+pub runs_new : (s : Sizes) (F : Flags) (k : ℕ) (o : Option (List ℕ)) (P : Part) (calls : List (Call × Answer)) (w : Working) → on_key k calls ≡ [] → NoneOn k (beyond w) → Stands s P o → Reached s F k P → Goes s F k P P o w.way w.progress → Runs s F k o P calls w
+runs_new s F k o P calls w none clear stands reached goes = record {
   value = o;
   slots = P;
   replayed = ap (values_after (Some o)) none;
   stands = stands;
   reached = reached;
   leads = leads_stay s k (beyond w) P clear;
-  goes = by_way w.way onward;
+  goes = goes;
 }
+
+-- and whose calls are all to come
+pub runs_first : (s : Sizes) (F : Flags) (k : ℕ) (o : Option (List ℕ)) (P : Part) (calls : List (Call × Answer)) (w : Working) → on_key k calls ≡ [] → is_onward w.way ≡ true → IsOff k w.progress → NoneOn k (beyond w) → Stands s P o → Reached s F k P → Runs s F k o P calls w
+runs_first s F k o P calls w none onward off clear stands reached = runs_new s F k o P calls w none clear stands reached (by_way w.way onward)
   where
     by_way : (y : Way) → is_onward y ≡ true → Goes s F k P P o y w.progress
     by_way Onward f = inr (off, refl)

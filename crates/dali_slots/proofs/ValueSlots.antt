@@ -69,22 +69,33 @@ stands_same s P (Some v) (Some w) h g =
     let ws : h.words ≡ g.words = cc (both) in
     ap (λ x. Some x) (sym h.value ∙ ap (λ x. unpacked x h.words) n ∙ ap (λ x. unpacked g.count x) ws ∙ g.value)
 
--- a dead slot is freed
-pub stands_freed : (s : Sizes) (P : Part) (o : Option (List ℕ)) (r i : ℕ) (ys : List ℕ) → P r i ≡ 2 ∷ ys → Stands s P o → Stands s (put_part P r i []) o
-stands_freed s P None r i ys e h = λ q j x zs g. ⊎_elim (λ a. let no : [] ≡ x ∷ zs = sym a.2 ∙ g in absurd (cc (no))) (λ a. h q j x zs (sym a.1 ∙ g)) (put_part-cases P r i [] q j)
-stands_freed s P (Some v) r i ys e h = record {
+-- other slots for the same value: its entry and its cell stand there, and nothing else is live
+pub lives_in :
+    (s : Sizes) (P Q : Part) (v : List ℕ) (h : Lives s P v) → Q h.region h.slot ≡ 1 ∷ h.at ∷ [] → Q (region_at h.at) (cell_at h.at) ≡ 1 ∷ h.count ∷ h.words
+    → ((q i : ℕ) → (q ≢ h.region) ⊎ (i ≢ h.slot) → (q ≢ region_at h.at) ⊎ (i ≢ cell_at h.at) → IsDead (Q q i))
+    → Lives s Q v
+lives_in s P Q v h entry cell others = record {
   region = h.region;
   slot = h.slot;
   at = h.at;
   count = h.count;
   words = h.words;
   in_index = h.in_index;
-  entry = put_part-other P r i [] h.region h.slot (apart h.region h.slot (h.at ∷ []) h.entry) ∙ h.entry;
+  entry = entry;
   is_place = h.is_place;
-  cell = (put_part-other P r i [] (region_at h.at) (cell_at h.at) (apart (region_at h.at) (cell_at h.at) (h.count ∷ h.words) h.cell.0) ∙ h.cell.0, h.cell.1, h.cell.2);
+  cell = (cell, h.cell.1, h.cell.2);
   value = h.value;
-  others = λ q j a b x zs g. ⊎_elim (λ c. let no : [] ≡ x ∷ zs = sym c.2 ∙ g in absurd (cc (no))) (λ c. h.others q j a b x zs (sym c.1 ∙ g)) (put_part-cases P r i [] q j);
+  others = others;
 }
+
+-- a dead slot is freed
+pub stands_freed : (s : Sizes) (P : Part) (o : Option (List ℕ)) (r i : ℕ) (ys : List ℕ) → P r i ≡ 2 ∷ ys → Stands s P o → Stands s (put_part P r i []) o
+stands_freed s P None r i ys e h = λ q j x zs g. ⊎_elim (λ a. let no : [] ≡ x ∷ zs = sym a.2 ∙ g in absurd (cc (no))) (λ a. h q j x zs (sym a.1 ∙ g)) (put_part-cases P r i [] q j)
+stands_freed s P (Some v) r i ys e h =
+    lives_in s P (put_part P r i []) v h
+    (put_part-other P r i [] h.region h.slot (apart h.region h.slot (h.at ∷ []) h.entry) ∙ h.entry)
+    (put_part-other P r i [] (region_at h.at) (cell_at h.at) (apart (region_at h.at) (cell_at h.at) (h.count ∷ h.words) h.cell.0) ∙ h.cell.0)
+    (λ q j a b x zs g. ⊎_elim (λ c. let no : [] ≡ x ∷ zs = sym c.2 ∙ g in absurd (cc (no))) (λ c. h.others q j a b x zs (sym c.1 ∙ g)) (put_part-cases P r i [] q j))
   where
     apart : (q j : ℕ) (xs : List ℕ) → P q j ≡ 1 ∷ xs → (q ≢ r) ⊎ (j ≢ i)
     apart q j xs g = ⊎_elim (λ a. let there : P q j ≡ P r i = ap (λ x. P x j) a.0 ∙ ap (λ x. P r x) a.1 in let no : 1 ∷ xs ≡ 2 ∷ ys = sym g ∙ there ∙ e in absurd (one_not_two (cc (no)))) (λ a. a) (same_slot q j r i)

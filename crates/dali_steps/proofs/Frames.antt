@@ -7,7 +7,7 @@ use Rattle.dali_counts.proofs.SmallLogs.{is_small}
 use Rattle.dali_batch.specs.Batch.{Framed, batch, batches}
 use Rattle.dali_batch.specs.Appending.{bodies_of, next_place}
 use Rattle.dali_batch.specs.Log.{body_bytes, AreSpelled}
-use Rattle.dali_batch.proofs.Bytes.{length-batch}
+use Rattle.dali_batch.proofs.Bytes.{length-batch, body_length}
 use Rattle.dali_batch.proofs.Unique.{some_bytes}
 use Rattle.dali_system.specs.State.{VaultState, taken_to, stable}
 use Rattle.dali_system.specs.Run.{no_image}
@@ -18,7 +18,7 @@ use Rattle.dali_vault.specs.Vaulted.{Vaulted, grown}
 use Rattle.dali_system.specs.Run.{Bases}
 use Rattle.dali_system.proofs.Flushes.{longer_stopped, longer_flushed}
 use Rattle.dali_crash.proofs.StepLeaves.{longer_parts}
-use Rattle.dali_traces.proofs.Bridges.{get_in_take, spelled_behind, body_length}
+use Rattle.dali_traces.proofs.Bridges.{get_in_take, spelled_behind}
 use Rattle.dali_steps.specs.At.{IsVault}
 
 -- ---- the bytes of a frame

@@ -1,80 +1,13 @@
-//! The calls of a vault, with what they say as the laws ask for it, at each moment of the call too (`any_moment`). Each is
-//! the vault's call and nothing else.
-ghost use Rattle.std.specs.Prelude.{◌≡◌, ◌≤◌, ◌<◌, ◌+◌, ◌^◌, ℕ, true, false, Err, IfOk, IfErr, OnOk, OnErr, IfSome, IsErrOf, length};
-ghost use Rattle.dali_store.specs.declared.store.FileName.TheVariants.{Anchor, Log};
-ghost use Rattle.dali_store.specs.Store.{file_of, LeavesOnly, TornTold};
-ghost use Rattle.dali_batch.specs.Appending.{bodies_of, SomeAdded};
+//! A read of a vault's log, with what it says as the laws ask for it. It is the vault's call and nothing else.
+ghost use Rattle.std.specs.Prelude.{◌≡◌, ℕ, IfOk, IfErr, IfSome, IsErrOf};
 ghost use Rattle.dali_batch.specs.declared.error.BatchError.TheVariants.{BadLog, Fault as BatchFault};
 ghost use Rattle.dali_batch.specs.Finding.{IsFound, IsBad, IsFurther};
-ghost use Rattle.dali_traces.specs.Disks.{image_name};
-ghost use Rattle.dali_traces.specs.Anchors.{MayHaveMoved};
-ghost use Rattle.dali_vault.specs.declared.error.VaultError.TheVariants.{Fault, Stopped};
-ghost use Rattle.dali_steps.specs.Said.{HasFlushed, FlushHasFailed, TornFrom, HasWritten, WriteHasFailed, HasSynced, SyncHasFailed, HasTurned, TurnHasFailed, HasRead, ReadHasFailed};
+ghost use Rattle.dali_steps.specs.Said.{HasRead, ReadHasFailed};
 
-use dali_batch::{BatchError, Found, Frame};
-use dali_region::Side;
+use dali_batch::{BatchError, Found};
 use dali_store::Store;
-use dali_vault::{Vault, VaultError};
+use dali_vault::Vault;
 use std::alloc::Global;
-
-/// Adds a frame to the log, as `Vault::flush` does.
-pub fn flush<V: Store>(vault: &mut Vault<V>, frame: &Frame) -> Result<u64, VaultError>
-    requires small { vault.old.end < 2 ^ 62 }
-    ensures stopped { vault.old.stopped ≡ true → (result ≡ Err Stopped) × (vault.new ≡ vault.old) }
-    ensures ok { OnOk result (HasFlushed V.told V.may_leave V.faults vault.old frame.now vault.new) }
-    ensures fault { IsErrOf result Fault → FlushHasFailed V.told V.may_leave V.faults vault.old frame.now vault.new }
-    ensures torn { vault.old.stopped ≡ false → TornTold Log vault.old.end (length frame.now.body + 6) (V.told vault.old.store) (V.told vault.new.store) }
-    ensures runs { vault.old.stopped ≡ false → OnErr result (result ≡ Err Fault) }
-    ensures any_moment { vault.old.stopped ≡ false → IfSome (V.told vault.old.store) (λ _. LeavesOnly V.moment V.left_since vault.old.store vault.new.store
-        (SomeAdded (V.may_leave vault.old.store) vault.old.end (bodies_of frame.now.body))) }
-{
-    vault.flush(frame)
-}
-
-/// Writes to an image, as `Vault::image_write` does.
-pub fn image_write<V: Store>(
-    vault: &mut Vault<V>,
-    side: Side,
-    at: u64,
-    bytes: &[u8],
-) -> Result<(), VaultError>
-    requires { vault.old.stopped ≡ false → IfSome (V.told vault.old.store) (λ fs. at ≤ length (file_of (image_name side) fs)) }
-    ensures stopped { vault.old.stopped ≡ true → (result ≡ Err Stopped) × (vault.new ≡ vault.old) }
-    ensures ok { OnOk result (HasWritten V.told V.may_leave V.faults vault.old (image_name side) at bytes.now vault.new) }
-    ensures fault { IsErrOf result Fault → WriteHasFailed V.told V.may_leave V.faults vault.old (image_name side) at (length bytes.now) vault.new }
-    ensures torn { vault.old.stopped ≡ false → TornTold (image_name side) at (length bytes.now) (V.told vault.old.store) (V.told vault.new.store) }
-    ensures runs { IsErrOf result Stopped → vault.old.stopped ≡ true }
-    ensures any_moment { vault.old.stopped ≡ false → LeavesOnly V.moment V.left_since vault.old.store vault.new.store
-        (TornFrom (V.may_leave vault.old.store) (image_name side) at (length bytes.now)) }
-{
-    vault.image_write(side, at, bytes)
-}
-
-/// Syncs an image, as `Vault::image_sync` does.
-pub fn image_sync<V: Store>(vault: &mut Vault<V>, side: Side) -> Result<(), VaultError>
-    ensures stopped { vault.old.stopped ≡ true → (result ≡ Err Stopped) × (vault.new ≡ vault.old) }
-    ensures ok { OnOk result (HasSynced V.told V.may_leave V.faults vault.old (image_name side) vault.new) }
-    ensures fault { IsErrOf result Fault → SyncHasFailed V.told V.may_leave V.faults vault.old vault.new }
-    ensures told { V.told vault.new.store ≡ V.told vault.old.store }
-    ensures runs { IsErrOf result Stopped → vault.old.stopped ≡ true }
-    ensures any_moment { vault.old.stopped ≡ false → LeavesOnly V.moment V.left_since vault.old.store vault.new.store (V.may_leave vault.old.store) }
-{
-    vault.image_sync(side)
-}
-
-/// Moves the anchor, as `Vault::move_anchor` does.
-pub fn move_anchor<V: Store>(vault: &mut Vault<V>) -> Result<(), VaultError>
-    requires small { vault.old.current < 2 ^ 62 }
-    ensures stopped { vault.old.stopped ≡ true → (result ≡ Err Stopped) × (vault.new ≡ vault.old) }
-    ensures ok { OnOk result (HasTurned V.told V.may_leave V.faults vault.old vault.new) }
-    ensures fault { IsErrOf result Fault → TurnHasFailed V.told V.may_leave V.faults vault.old vault.new }
-    ensures torn { vault.old.stopped ≡ false → TornTold Anchor vault.old.current 2 (V.told vault.old.store) (V.told vault.new.store) }
-    ensures runs { IsErrOf result Stopped → vault.old.stopped ≡ true }
-    ensures any_moment { vault.old.stopped ≡ false → IfSome (V.told vault.old.store) (λ _. LeavesOnly V.moment V.left_since vault.old.store vault.new.store
-        (MayHaveMoved (V.may_leave vault.old.store) vault.old.current)) }
-{
-    vault.move_anchor()
-}
 
 /// Reads the log, as `Vault::read_log` does.
 pub fn read_log<V: Store>(vault: &mut Vault<V>, alloc: Global, at: u64) -> Result<Found, BatchError>

@@ -20,10 +20,11 @@ use Rattle.dali_core.specs.declared.error.SystemError.TheVariants.{OutOfMemory a
 use Rattle.dali_core.specs.Served.{Served}
 use Rattle.dali_core.proofs.UnderWays.{latched_unheld}
 use Rattle.dali_calls.specs.Plans.{Planned, is_back, went_back, with_operation, commit_refusal, GoesOn}
+use Rattle.dali_calls.specs.Operating.{Goes, AreWritten}
+use Rattle.dali_calls.proofs.Operating.{IsSameWay}
 use Rattle.dali_single.specs.declared.error.StepError.TheVariants.{System}
 use Rattle.dali_single.specs.Refusals.{IsRefusedOn}
-use Rattle.dali_single.specs.Operated.{Goes, AreWritten}
-use Rattle.dali_single.proofs.Writing.{IsMade as IsLatchedFor, IsSameWay, Written, written, as_before, refused_so, promised_still}
+use Rattle.dali_single.proofs.Writing.{IsMade as IsLatchedFor, Written, written, as_before, refused_so, promised_still}
 use Rattle.dali_stepwise.specs.Opened.{Opens, IsLogged, IsMade, DiesOn}
 
 -- ---- the region

@@ -23,14 +23,16 @@ use Rattle.dali_core.specs.declared.want.Want.{Want}
 use Rattle.dali_core.specs.declared.want.Want.TheVariants.{Region}
 use Rattle.dali_calls.specs.Plans.{Planned, want_of, is_back, IsWhole}
 use Rattle.dali_calls.proofs.Following.{first_of}
+use Rattle.dali_calls.proofs.Operating.{steps_on}
+use Rattle.dali_calls.proofs.Rows.{row_apart}
 use Rattle.dali_single.specs.declared.error.StepError.{StepError}
 use Rattle.dali_single.specs.Operated.{Operated}
 use Rattle.dali_single.specs.Refusals.{IsRefusedOn, IsRefusedIn, IsRefusal}
 use Rattle.dali_single.specs.Stands.{core, IsAtRest, AtPlan}
 use Rattle.dali_single.specs.Single.{Leads, OthersStay}
 use Rattle.dali_single.specs.Advanced.{Advanced}
-use Rattle.dali_single.proofs.Leading.{leads_there, steps_on}
-use Rattle.dali_single.proofs.Going.{alive, row_apart, one_operated}
+use Rattle.dali_single.proofs.Leading.{leads_there}
+use Rattle.dali_single.proofs.Going.{alive, one_operated}
 use Rattle.dali_single.proofs.Reaching.{wanted}
 use Rattle.dali_stepwise.specs.Opened.{IsOpened, IsLogged, IsMade, DiesOn, record_on}
 use Rattle.dali_stepwise.specs.Stepwise.{LeadsOnce, OneFurther, DiesIn, IsDeath}

@@ -29,13 +29,15 @@ use Rattle.dali_system.specs.Courses.{Begins, Operates, TakesBack, Frees, Answer
 use Rattle.dali_facts.specs.Plans.{AtWork}
 use Rattle.dali_facts.proofs.Ends.{others_leave}
 use Rattle.dali_calls.specs.Steps.{call_key, is_get}
+use Rattle.dali_calls.specs.Operating.{IsOwn}
+use Rattle.dali_calls.specs.Others.{is_apart, is_apart_on}
+use Rattle.dali_calls.proofs.Rows.{row_apart}
 use Rattle.dali_system.specs.Run.{covers}
-use Rattle.dali_single.specs.Operated.{IsOwn}
-use Rattle.dali_single.proofs.Going.{row_apart, kept_apart}
+use Rattle.dali_single.proofs.Going.{kept_apart}
 use Rattle.dali_single.proofs.Calling.{lock_apart}
 use Rattle.dali_single.proofs.Undoing.{ended_others}
 use Rattle.dali_single.proofs.Settled.{commit_others}
-use Rattle.dali_stepwise.specs.Beside.{is_apart, is_apart_on, LeavesBe, EachLeavesBe, CourseLeavesBe, OwnStepIsApart, LedLeavesBe, PlanWaits, CallWaits, RestWaits}
+use Rattle.dali_stepwise.specs.Beside.{LeavesBe, EachLeavesBe, CourseLeavesBe, OwnStepIsApart, LedLeavesBe, PlanWaits, CallWaits, RestWaits}
 
 -- ---- numbers
 other_than : (u t : ℕ) → not (u == t) ≡ true → (u == t) ≡ false

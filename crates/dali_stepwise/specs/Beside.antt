@@ -1,5 +1,4 @@
 -- What the steps of others leave to a transaction, and what a refused call leaves to its own.
---     is_apart t x             the step x isn't one of t: it is of another transaction, or of none
 --     LeavesBe t L c M d       t has its row, its locks and its place in the rules, and no region is latched for it that wasn't
 --     EachLeavesBe, CourseLeavesBe     so each step leaves it that is apart from it, and each list of them
 --     OwnStepIsApart, LedLeavesBe      a step of another transaction's own is apart from it, so a list of them leaves it be
@@ -7,40 +6,21 @@
 --     PlanTurns, TurnedEnds    a plan that is refused stands where it stood; where it wants nothing more its call has changed nothing, and t may call again
 --     Grows L c M d            what is added to the log is what the system has logged
 --     StepGrows, LedGrows      so it is of each step, and of the steps of a transaction's own
-use Rattle.std.specs.Prelude.{◌≡◌, ◌==◌, ◌<◌, ◌≤◌, ℕ, Bool, true, false, not, List, [], ◌++◌, length}
+use Rattle.std.specs.Prelude.{◌≡◌, ◌==◌, ◌<◌, ◌≤◌, ℕ, Bool, true, false, List, [], ◌++◌, length}
 use Rattle.std.specs.List.{list_all}
 use Rattle.dali_record.specs.declared.records.Record.{Record}
 use Rattle.dali_record.specs.Legal.{txn_state}
 use Rattle.dali_system.specs.State.{CoreState, row_of, lock_of}
 use Rattle.dali_system.specs.Keeps.{IsFree}
-use Rattle.dali_system.specs.Regions.{RegionStep, Latch}
-use Rattle.dali_system.specs.Courses.{Step, Operates, TakesBack, Frees, Answers, Commits, Ends, Locks, Refuses, OnRegion, Dies, Claims, GivesBack, Moment, IsStep, IsCourse}
+use Rattle.dali_system.specs.Courses.{Step, Moment, IsStep, IsCourse}
 use Rattle.dali_core.specs.declared.want.Want.TheVariants.{Nothing}
 use Rattle.dali_calls.specs.declared.plan.Phase.TheVariants.{Refused}
 use Rattle.dali_calls.specs.Plans.{Planned, is_answered, want_of, refused, IsWhole}
+use Rattle.dali_calls.specs.Others.{is_apart}
 use Rattle.dali_single.specs.Stands.{IsAtRest, AtPlan}
 use Rattle.dali_single.specs.Single.{IsOwnStep, Leads, MayCall}
 
 -- ---- the steps of others
-abbrev pub is_apart_on : ℕ → RegionStep → Bool
-is_apart_on t (Latch u) = not (u == t)
-is_apart_on t x = true
-
-abbrev pub is_apart : ℕ → Step → Bool
-is_apart t (Operates u b) = not (u == t)
-is_apart t (TakesBack u b) = not (u == t)
-is_apart t (Frees u b) = not (u == t)
-is_apart t (Answers u call a) = not (u == t)
-is_apart t (Commits u) = not (u == t)
-is_apart t (Ends u) = not (u == t)
-is_apart t (Locks u k m) = not (u == t)
-is_apart t (Refuses u k m h) = not (u == t)
-is_apart t (Dies u o) = not (u == t)
-is_apart t (Claims u) = not (u == t)
-is_apart t (GivesBack u o) = not (u == t)
-is_apart t (OnRegion r x) = is_apart_on t x
-is_apart t x = true
-
 pub record LeavesBe (t : ℕ) (L : List Record) (c : CoreState) (M : List Record) (d : CoreState) : Type 0 where
   pub sizes : d.system.sizes ≡ c.system.sizes
   pub next : c.system.next ≤ d.system.next

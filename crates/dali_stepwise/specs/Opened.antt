@@ -20,7 +20,7 @@ use Rattle.dali_system.specs.Regions.{RegionStep, IsOpen}
 use Rattle.dali_core.specs.declared.operation.Operation.{Operation}
 use Rattle.dali_calls.specs.Steps.{call_key, IsBlockOf}
 use Rattle.dali_calls.specs.Plans.{Planned, plan_next, is_back, went_back, with_operation, GoesOn}
-use Rattle.dali_single.specs.Operated.{Goes}
+use Rattle.dali_calls.specs.Operating.{Goes}
 
 pub record IsOpened (precheck : Bool) (p : Planned) (g : RegionState) (b : Block) (h : RegionState) : Type 0 where
   pub latch : Ok tt ≡ latch_answer (not (is_back p) && precheck) g

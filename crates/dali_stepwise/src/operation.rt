@@ -1,13 +1,10 @@
 //! One operation of a call, from its latch to its record, and the death of its client in one.
-ghost use Rattle.std.specs.Prelude.{◌≡◌, ◌&&◌, not, Some, None, Err, IsSome, IsSomeAnd, IfSome, OnOk, OnErr, IfOk, IfErr};
-ghost use Rattle.dali_region.specs.State.{IsProtected, dead};
+ghost use Rattle.std.specs.Prelude.{◌≡◌, ◌&&◌, not, Some, None, Err, IsSome, OnOk, OnErr, IfOk, IfErr};
+ghost use Rattle.dali_region.specs.State.{IsProtected};
 ghost use Rattle.dali_region.specs.Answers.{latch_answer};
 ghost use Rattle.dali_system.specs.State.{row_of};
-ghost use Rattle.dali_system.specs.Regions.{IsOpen};
-ghost use Rattle.dali_core.specs.UnderWay.{IsUnderWay};
 ghost use Rattle.dali_calls.specs.Plans.{is_back, plan_next, with_operation};
 ghost use Rattle.dali_single.specs.declared.error.StepError.TheVariants.{Latch as ByLatch};
-ghost use Rattle.dali_single.specs.Operated.{AreWritten};
 ghost use Rattle.dali_single.specs.Refusals.{IsRefusedOn, IsRefusal};
 ghost use Rattle.dali_single.specs.Single.{OthersStay};
 ghost use Rattle.dali_single.specs.Stands.{IsAtRest};
@@ -15,21 +12,10 @@ ghost use Rattle.dali_stepwise.specs.Opened.{Opens, IsMade, DiesOn};
 ghost use Rattle.dali_stepwise.specs.Stepwise.{OneFurther, IsDeath};
 
 use crate::gate::Gate;
-use dali_calls::Plan;
+use dali_calls::{Plan, write_all};
 use dali_core::{System, Want};
 use dali_region::{LatchError, Region};
 use dali_single::StepError;
-
-// Writes all words of the open operation.
-fn write_all(plan: &mut Plan, region: &mut Region)
-    requires { IsSomeAnd plan.old.operation (λ o. IsUnderWay o.txn o.block o.left o.taken region.old) }
-    ensures is_open { IsSomeAnd plan.new.operation (λ o. IsOpen region.new o.txn o.block) }
-    ensures same { IfSome plan.old.operation (λ o. IsSomeAnd plan.new.operation (λ p. (p.txn ≡ o.txn) × (p.block ≡ o.block))) }
-    ensures rest { plan.new ≡ with_operation plan.old plan.new.operation }
-    ensures written { AreWritten region.old region.new }
-{
-    while plan.update(region) {}
-}
 
 // Latches the region that the plan wants, and writes all words of its next operation.
 fn open(plan: &mut Plan, region: &mut Region, precheck: bool) -> Result<(), LatchError>

@@ -13,6 +13,7 @@ use dali_record::{Answer, Call};
 use dali_region::{LatchError, Region};
 use dali_single::StepError;
 use dali_words::Value;
+use std::alloc::Global;
 use std::cell::Cell;
 use std::test::*;
 
@@ -124,24 +125,25 @@ fn turns(plan: &mut Plan) -> bool
 }
 
 // The regions and the system of a new database with a limit, in which the transactions 1 and 2 have begun.
-fn begun(rt: &HostRuntime, limit: u64) -> Result<([Region; 2], System)>
+fn begun(alloc: Global, limit: u64) -> Option<([Region; 2], System)>
     requires { limit ≤ 268435456 }
 {
-    let geometry = Geometry::new(1, 1)?;
+    let geometry = Geometry::new(1, 1).ok()?;
+    let mut system = System::new(alloc, geometry, 1, 1, 10, limit).ok()?;
+    let (Ok(_), Ok(_)) = (system.begin(), system.begin()) else {
+        return None;
+    };
     let regions = [
         Region::load(geometry.formatted(0)),
         Region::load(geometry.formatted(1)),
     ];
-    let mut system = System::new(rt.alloc(), geometry, 1, 1, 10, limit)?;
-    system.begin()?;
-    system.begin()?;
-    Ok((regions, system))
+    Some((regions, system))
 }
 
 // An insert of a short value.
-fn insert(key: u64) -> Result<Call> {
-    let value = Value::from_bytes(b"a").context("no value")?;
-    Ok(Call::Insert { key, value })
+fn insert(key: u64) -> Option<Call> {
+    let value = Value::from_bytes(b"a")?;
+    Some(Call::Insert { key, value })
 }
 
 // The next step of one of two plans, by its client, and what stands behind it.
@@ -166,7 +168,7 @@ fn turn(
     (made, gate.last.get(), system.records())
 }
 
-// Two inserts side by side.
+// Two inserts side by side, step by step.
 fn side_by_side(
     regions: &mut [Region],
     system: &mut System,
@@ -189,12 +191,25 @@ fn side_by_side(
     ]
 }
 
-#[test]
-fn two_inserts_side_by_side(rt: HostRuntime) -> Result<()> {
+// The same over a new database, with the keys and places that they leave.
+fn two_inserts(
+    alloc: Global,
+) -> Option<
+    (
+        [(Stepped, (u32, u32, u32), u64); 9],
+        (u64, u64, u64, u64, u64, u64),
+    ),
+> {
     let calls = (insert(4)?, insert(5)?);
-    let (mut regions, mut system) = begun(&rt, 200_000)?;
+    let (mut regions, mut system) = begun(alloc, 200_000)?;
     let seen = side_by_side(&mut regions, &mut system, calls);
-    let done = Stepped::Answered { answer: Answer::Ok };
+    let (index, heap) = (regions[0].words(), regions[1].words());
+    let left = (index[2], index[3], index[5], index[6], heap[9], heap[17]);
+    Some((seen, left))
+}
+
+#[test]
+fn two_inserts_side_by_side(rt: HostRuntime) {
     let wanted = [
         (Stepped::Made, (1, 1, 1), 4),
         (Stepped::Made, (2, 1, 2), 5),
@@ -202,17 +217,16 @@ fn two_inserts_side_by_side(rt: HostRuntime) -> Result<()> {
         (Stepped::Made, (1, 2, 4), 7),
         (Stepped::Made, (1, 3, 5), 8),
         // an answer passes no gate
-        (done, (1, 3, 5), 9),
+        (Stepped::Answered { answer: Answer::Ok }, (1, 3, 5), 9),
         (Stepped::Nothing, (1, 3, 5), 9),
         (Stepped::Made, (2, 3, 6), 10),
-        (done, (2, 3, 6), 11),
+        (Stepped::Answered { answer: Answer::Ok }, (2, 3, 6), 11),
     ];
-    assert_eq!(rt; seen, wanted);
     // client 2 was the first to put, and client 1 the first to add
-    let (index, heap) = (regions[0].words(), regions[1].words());
-    let left = (index[2], index[3], index[5], index[6], heap[9], heap[17]);
-    assert_eq!(rt; left, (4, 10, 5, 9, 5, 4));
-    Ok(())
+    assert_eq!(rt;
+        two_inserts(rt.alloc()),
+        Some((wanted, (4, 10, 5, 9, 5, 4)))
+    );
 }
 
 // A client dies in its second operation, and another one meets its latch.
@@ -240,11 +254,30 @@ fn a_death(
     (dead, records, [looked, put], another, last.get())
 }
 
-#[test]
-fn a_client_dies_in_a_put(rt: HostRuntime) -> Result<()> {
+// The same over a new database, with the word of the put and both rows.
+fn dead_in_put(
+    alloc: Global,
+) -> Option<
+    (
+        (
+            Option<Result<(), LatchError>>,
+            u64,
+            [Stepped; 2],
+            Option<Result<(), LatchError>>,
+            (u32, u32, u32),
+        ),
+        (u64, Option<State>, Option<State>),
+    ),
+> {
     let calls = (insert(4)?, insert(5)?);
-    let (mut regions, mut system) = begun(&rt, 200_000)?;
+    let (mut regions, mut system) = begun(alloc, 200_000)?;
     let seen = a_death(&mut regions, &mut system, calls);
+    let left = (regions[1].words()[9], system.state(1), system.state(2));
+    Some((seen, left))
+}
+
+#[test]
+fn a_client_dies_in_a_put(rt: HostRuntime) {
     // no record is logged, and the gate was passed; another one looks, and then neither puts nor dies where the dead hold
     // stands, and passes no gate
     let cause = LatchError::DeadHolder { txn: 1 };
@@ -258,12 +291,12 @@ fn a_client_dies_in_a_put(rt: HostRuntime) -> Result<()> {
         Some(Err(cause)),
         (2, 1, 3),
     );
-    assert_eq!(rt; seen, wanted);
     // the words of the put are written, and the row names its region
-    let left = (regions[1].words()[9], system.state(1), system.state(2));
     let dead = Some(State::Dead { latched: Some(1) });
-    assert_eq!(rt; left, (4, dead, Some(State::Live)));
-    Ok(())
+    assert_eq!(rt;
+        dead_in_put(rt.alloc()),
+        Some((wanted, (4, dead, Some(State::Live))))
+    );
 }
 
 // An insert that is refused at its third operation and goes back, and what the gate saw behind the refusal and at the end.
@@ -286,11 +319,18 @@ fn a_way_back(
     ([looked, put, added], turned, [back, end], seen)
 }
 
-#[test]
-fn a_refused_call_goes_back_step_by_step(rt: HostRuntime) -> Result<()> {
+// The same where a walk and a put are logged, and then the log has no room for the entry; what is left then.
+fn without_room(
+    alloc: Global,
+) -> Option<
+    (
+        (bool, bool, [Stepped; 2]),
+        [(u32, u32, u32); 2],
+        (u64, u64, u64),
+    ),
+> {
     let call = insert(4)?;
-    // a walk and a put are logged, and then the log has no room for the entry
-    let (mut regions, mut system) = begun(&rt, 209)?;
+    let (mut regions, mut system) = begun(alloc, 209)?;
     let (onward, turned, back, seen) = a_way_back(&mut regions, &mut system, call);
     let full = matches!(
         onward,
@@ -304,20 +344,26 @@ fn a_refused_call_goes_back_step_by_step(rt: HostRuntime) -> Result<()> {
             }
         ]
     );
-    // what the put changed is taken back, and no answer follows
-    assert_eq!(rt;
-        (full, turned, back),
-        (true, true, [Stepped::Made, Stepped::Nothing])
-    );
-    // the gate is passed before the record: also by the operation whose record is refused
-    assert_eq!(rt; seen, [(1, 3, 3), (1, 4, 4)]);
     let left = (
         system.records(),
         regions[0].words()[2],
         regions[1].words()[8],
     );
-    assert_eq!(rt; left, (6, 0, 0));
-    Ok(())
+    Some(((full, turned, back), seen, left))
+}
+
+#[test]
+fn a_refused_call_goes_back_step_by_step(rt: HostRuntime) {
+    // what the put changed is taken back, and no answer follows; the gate is passed before the record: also by the operation
+    // whose record is refused
+    assert_eq!(rt;
+        without_room(rt.alloc()),
+        Some((
+            (true, true, [Stepped::Made, Stepped::Nothing]),
+            [(1, 3, 3), (1, 4, 4)],
+            (6, 0, 0)
+        ))
+    );
 }
 
 // The first operation of an insert over a damaged index region, with the precheck and without.
@@ -332,12 +378,16 @@ fn over_damage(regions: &mut [Region], system: &mut System, call: Call) -> [Step
     ]
 }
 
-#[test]
-fn a_damaged_region_is_refused_with_the_precheck_alone(rt: HostRuntime) -> Result<()> {
+// All words of an index region that was just formatted are 0.
+fn over_poked(alloc: Global) -> Option<[Stepped; 2]> {
     let call = insert(4)?;
-    let (mut regions, mut system) = begun(&rt, 200_000)?;
-    // all words of an index region that was just formatted are 0
+    let (mut regions, mut system) = begun(alloc, 200_000)?;
     regions[0].poke(63, 4);
+    Some(over_damage(&mut regions, &mut system, call))
+}
+
+#[test]
+fn a_damaged_region_is_refused_with_the_precheck_alone(rt: HostRuntime) {
     let cause = LatchError::Damaged {
         codeword: 0,
         found: 4,
@@ -345,15 +395,13 @@ fn a_damaged_region_is_refused_with_the_precheck_alone(rt: HostRuntime) -> Resul
     let refused = Stepped::Refused {
         cause: StepError::Latch { cause },
     };
-    let seen = over_damage(&mut regions, &mut system, call);
-    assert_eq!(rt; seen, [refused, Stepped::Made]);
-    Ok(())
+    assert_eq!(rt; over_poked(rt.alloc()), Some([refused, Stepped::Made]));
 }
 
-#[test]
-fn an_older_one_waits_and_a_younger_one_is_busy(rt: HostRuntime) -> Result<()> {
+// How many calls have their lock answered as it should be, until one hasn't.
+fn right_locks(alloc: Global) -> Option<usize> {
     let inserts = [insert(4)?, insert(5)?, insert(6)?];
-    let (_regions, mut system) = begun(&rt, 200_000)?;
+    let (_regions, mut system) = begun(alloc, 200_000)?;
     let rows = [
         (1, inserts[0], LockAnswer::Granted),
         (2, inserts[1], LockAnswer::Granted),
@@ -363,9 +411,20 @@ fn an_older_one_waits_and_a_younger_one_is_busy(rt: HostRuntime) -> Result<()> {
         (2, Call::Get { key: 6 }, LockAnswer::Granted),
         (2, inserts[2], LockAnswer::Busy { holder: 1 }),
     ];
+    let mut right = 0_usize;
     for (txn, call, wanted) in rows {
         let (_plan, given) = asked(&mut system, txn, call);
-        assert_eq!(rt; given, Ok(wanted));
+        if given != Ok(wanted) {
+            return Some(right);
+        }
+        right = right.saturating_add(1);
     }
+    Some(right)
+}
+
+#[test]
+fn an_older_one_waits_and_a_younger_one_is_busy(rt: HostRuntime) -> Result<()> {
+    let right = right_locks(rt.alloc()).context("no database")?;
+    assert_eq!(rt; right, 7);
     Ok(())
 }

@@ -30,7 +30,7 @@ use Rattle.dali_system.proofs.Wholes.{slain}
 use Rattle.dali_system.proofs.RowStates.{begun_state, back_state, turned_state}
 use Rattle.dali_system.proofs.WholeSteps.{whole_course_keeps, load_is_whole}
 use Rattle.dali_system.proofs.Touching.{with_one, after_all, touches, join_traces, quiet_trace, trace_course}
-use Rattle.dali_system.proofs.Worked.{are_heap, stored_regions, start_runs, exclusive_covers, logging, at_look, at_kill_cell, cell_killed, live_killed, logs_by, alive_by, kills_course}
+use Rattle.dali_system.proofs.Worked.{are_heap, stored_regions, start_runs, exclusive_covers, logging, at_look, at_kill_cell, cell_killed, live_killed, logs_by, logs_block, alive_by, kills_course}
 use Rattle.dali_system.specs.Run.{only}
 
 -- ---- another transaction asks for the key
@@ -171,16 +171,7 @@ unfolding look kill_cell kill_entry revive_cell entries
 revives = (
   (
     at_revive,
-    record {
-      runs = refl;
-      spelled = (omega arith, is_revive, refl);
-      next = refl;
-      by = logs_by _ (Cleaning (Some 0)) (Back 1 revive_cell) state_claimed_again refl;
-      kind = refl;
-      locked = exclusive_covers true;
-      at = refl;
-      is_open = record { hold = refl; reads = refl; sound = λ h. refl; stands = λ h. refl };
-    },
+    logs_block (with_one put_back 1 at_revive) (Back 1 revive_cell) revive_cell at_revive (Cleaning (Some 0)) state_claimed_again refl refl (omega arith, is_revive, refl) refl refl (exclusive_covers true) refl (record { hold = refl; reads = refl; sound = λ h. refl; stands = λ h. refl }),
     (refl, refl),
   ),
   refl,

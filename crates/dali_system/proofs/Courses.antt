@@ -7,7 +7,7 @@ use Rattle.dali_record.specs.declared.records.Record.TheVariants.{Begin, Forward
 use Rattle.dali_record.specs.Files.{Files}
 use Rattle.dali_counts.proofs.Tallies.{tallies}
 use Rattle.dali_system.specs.State.{CoreState, VaultState, taken_to, stable, log_after}
-use Rattle.dali_system.specs.Run.{Bases, base_at, RunsOn, VaultRun, IsRun, only, no_image, AllAreWords}
+use Rattle.dali_system.specs.Run.{Bases, base_at, RunsOn, VaultRun, IsRun, only, no_image}
 use Rattle.dali_system.specs.Steps.{audit_record, taken}
 use Rattle.dali_region.specs.State.{touched, checked, taken_back}
 use Rattle.dali_att.specs.declared.state.State.TheVariants.{Dead, Cleaning}
@@ -28,6 +28,7 @@ use Rattle.dali_system.proofs.Passes.{AreLater, later_all, later_one, check_late
 use Rattle.dali_system.proofs.AuditEnds.{pass_of, found_is, none_found, may_end_audit}
 use Rattle.dali_system.proofs.Loads.{load_runs}
 use Rattle.dali_system.proofs.Flushes.{take_keeps, flush_keeps, fault_keeps, read_keeps, flush_leaves, fault_leaves, read_leaves, longer_flushed, length-frame}
+use Rattle.dali_words.specs.Words.{AllAreWords}
 use Rattle.dali_geometry.specs.Sizes.{Sizes}
 use Rattle.dali_record.specs.Legal.{Rules}
 
@@ -329,8 +330,9 @@ step_keeps bases before m n x D F at s came = step_runs bases before (only D) (o
 pub step_keeps_none : (bases : Bases) (before : List Record) (m n : Moment) (x : Step) → RunsAt bases before no_image m → IsStepAt m x n → RunsAt bases before no_image n
 step_keeps_none bases before m n x at s = step_runs bases before no_image no_image m n x at s (λ F h. absurd h)
 
-pub with_none : (bases : Bases) (before : List Record) (leave : Files → Type 0) (m : Moment) → RunsAt bases before leave m → RunsAt bases before no_image m
-with_none bases before leave m at = record {
+-- where less is said of them
+pub run_less : (bases : Bases) (before : List Record) (old new : Files → Type 0) (m : Moment) → ((F : Files) → new F → old F) → RunsAt bases before old m → RunsAt bases before new m
+run_less bases before old new m less at = record {
   log = at.log;
   run = record {
     first = at.run.first;
@@ -338,10 +340,13 @@ with_none bases before leave m at = record {
     runs = at.run.runs;
     frame = at.run.frame;
     taken = at.run.taken;
-    vault = vault_less leave no_image (log_after before m.core.system) (stable m.core) m.core.vault (λ F h. absurd h) at.run.vault;
+    vault = vault_less old new (log_after before m.core.system) (stable m.core) m.core.vault less at.run.vault;
   };
   audits = at.audits;
 }
+
+pub with_none : (bases : Bases) (before : List Record) (leave : Files → Type 0) (m : Moment) → RunsAt bases before leave m → RunsAt bases before no_image m
+with_none bases before leave m at = run_less bases before leave no_image m (λ F h. absurd h) at
 
 -- ---- an audit that ends
 answer_named : (ps : List Pass) (found : List ℕ) (i : ℕ) (p : Pass) → slice_get ps i ≡ Some p → has found p.region ≡ has_found ps p.region

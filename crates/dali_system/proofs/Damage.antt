@@ -1,14 +1,14 @@
 -- The worked run with damage: a poke, a transaction that reads it and commits, an audit that fails.
-use Rattle.std.proofs.Common.{◌≡◌, ℕ, zero, suc, ◌<◌, true, false, List, [], ◌∷◌, ◌++◌, Option, Some, None, refl, ap, sym, ◌∙◌, subst, arith}
+use Rattle.std.proofs.Common.{◌≡◌, ℕ, zero, suc, ◌<◌, true, false, List, [], ◌∷◌, ◌++◌, Option, Some, None, refl, ap, sym, ◌∙◌, arith}
 use Rattle.std.specs.Prelude.{slice_get, replicate, is_some}
 use Rattle.std.specs.FinMap.{get}
 use Rattle.dali_lists.proofs.Options.{some_same}
+use Rattle.dali_words.specs.Words.{AreWords, AllAreWords}
 use Rattle.dali_geometry.specs.Places.{formatted_image}
 use Rattle.dali_record.specs.declared.operations.Op.TheVariants.{Look}
 use Rattle.dali_record.specs.declared.records.Call.TheVariants.{Get}
 use Rattle.dali_record.specs.declared.records.Answer.TheVariants.{Missing}
 use Rattle.dali_record.specs.declared.records.Record.TheVariants.{Begin, Forward, Done, Commit, AuditBegin, AuditFail}
-use Rattle.dali_record.specs.Blocks.{AreWords}
 use Rattle.dali_record.specs.Spelling.{IsBlock}
 use Rattle.dali_record.specs.Epochs.{last_epoch}
 use Rattle.dali_record.specs.Damage.{has}
@@ -24,7 +24,7 @@ use Rattle.dali_locks.proofs.Changes.{get-locks_with}
 use Rattle.dali_att.specs.declared.state.State.TheVariants.{Live}
 use Rattle.dali_att.specs.Table.{fresh_row}
 use Rattle.dali_system.specs.State.{TxnRow, state_of, lock_of}
-use Rattle.dali_system.specs.Run.{log_in, covers, blocks_on, AllAreWords}
+use Rattle.dali_system.specs.Run.{log_in, covers, blocks_on}
 use Rattle.dali_system.specs.Steps.{begun, commit_logged, granted, op_logged, done_logged, taken, audit_begun, audit_ended}
 use Rattle.dali_system.specs.Keeps.{with_system}
 use Rattle.dali_system.specs.Regions.{Poke}
@@ -261,9 +261,7 @@ pub damage_trace : CoreTraced (start formatted) first_files damage finish crash
 damage_trace = (begun_1, first_files, begins_1, refl, (committed_1, first_files, commits_1, refl, (poked_0, first_files, pokes, refl, (begun_2, first_files, begins_2, refl, (locked, first_files, asks, refl, rest_trace)))))
 
 formatted_regions : AllAreWords formatted
-formatted_regions zero ws e = subst AreWords (some_same e) (refl, omega arith)
-formatted_regions (suc zero) ws e = subst AreWords (some_same e) (refl, omega arith)
-formatted_regions (suc (suc r)) ws e = absurd (cc)
+formatted_regions = ((refl, omega arith), ((refl, omega arith), tt))
 
 -- ---- what is left
 pub none_escapes : NoneEscapes (last_epoch (log_in crash)) finish.core

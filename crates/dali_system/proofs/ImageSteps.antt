@@ -90,20 +90,14 @@ images_region bases told old new c d y r g h is sizes at clear misses less run =
         ap (told side) e ∙ (run.files side r g at own.0 own.1 ∙ (sym own.2 ∙ sym (ap (λ (z : RegionState). z.back) f)))
 
 clears_after : (x : RegionStep) (g : RegionState) → clears x ≡ false → Clears g (region_after x g)
-clears_after (Latch t) g n A p d = (p, d, refl)
-clears_after (Latch t) g n B p d = (p, d, refl)
-clears_after (NoteReads m) g n A p d = (p, d, refl)
-clears_after (NoteReads m) g n B p d = (p, d, refl)
-clears_after (Update i v) g n A p d = (p, d, refl)
-clears_after (Update i v) g n B p d = (p, d, refl)
-clears_after TakeBack g n A p d = (p, d, refl)
-clears_after TakeBack g n B p d = (p, d, refl)
 clears_after (Poke i m) g n side p d = absurd (cc)
 clears_after Check g n A p d = (p, d, refl)
 clears_after Check g n B p d = (p, d, refl)
 clears_after Die g n A p d = (p, d, refl)
 clears_after Die g n B p d = (p, d, refl)
 clears_after (Clean side) g n s p d = absurd (cc)
+clears_after _ g n A p d = (p, d, refl)
+clears_after _ g n B p d = (p, d, refl)
 
 misses_after : (x : RegionStep) (g : RegionState) → (region_after x g).missed ≡ false → g.missed ≡ false
 misses_after (Latch t) g e = e

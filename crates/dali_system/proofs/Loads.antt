@@ -1,5 +1,5 @@
 -- A core that was just made is a run.
-use Rattle.std.proofs.Common.{◌≡◌, ℕ, zero, suc, ◌+◌, ◌-◌, ◌≤◌, false, List, [], ◌∷◌, length, take, Option, Some, None, refl, ap, sym, subst, ◌∙◌, arith, Bool, true, ◌++◌, cond, get_or, ◌<◌, ◌^◌}
+use Rattle.std.proofs.Common.{◌≡◌, ℕ, zero, suc, ◌+◌, ◌-◌, ◌≤◌, false, List, [], ◌∷◌, length, take, Option, Some, None, refl, ap, sym, subst, ◌∙◌, arith, Bool, true, ◌++◌, cond}
 use Rattle.std.specs.Prelude.{IsSome, slice_get, map, ◌==◌, not, ◌&&◌}
 use Rattle.std.proofs.lemmas.List.{length-map}
 use Rattle.dali_record.specs.declared.records.Record.TheVariants.{Format, Restarted, Begin, Done, Commit, Ended, Solo, AuditBegin, AuditClean, AuditFail, Back, Forward}
@@ -9,8 +9,9 @@ use Rattle.dali_record.specs.Settled.{words_in}
 use Rattle.dali_record.specs.Legal.{TxnState, Unbegun, Active, Committed as Ending, Over, txn_state, Rules, txn_next, rules_next, rules_state, rules_first, rules_behind, kept_if, restarts, passes, rules_start}
 use Rattle.dali_region.specs.State.{RegionState, loaded}
 use Rattle.dali_region.proofs.Holds.{loaded_keeps}
-use Rattle.dali_record.specs.Blocks.{AreWords}
-use Rattle.std.specs.List.{AllByRecursion}
+use Rattle.std.proofs.lemmas.Option.{slice_get_within}
+use Rattle.std.proofs.lemmas.List.Elements.{All-from_recursion}
+use Rattle.dali_words.specs.Words.{AreWords, AllAreWords}
 use Rattle.dali_system.specs.Run.{IsRow, is_running, failed_first, blocks_on, RegionRun, base_at, LogRun}
 use Rattle.dali_system.specs.Loads.{LoadRuns, FormatRests, EmptyRests}
 use Rattle.dali_counts.proofs.NewNumbers.{unbegun_above}
@@ -49,14 +50,13 @@ get_region [] r g e = absurd (cc)
 get_region (ws ∷ image) zero g e = refl
 get_region (ws ∷ image) (suc r) g e = get_region image r g e
 
-word_fits : (ws : List ℕ) → AllByRecursion (λ w. w < 2 ^ 64) ws → (i : ℕ) → get_or ws i 0 < 2 ^ 64
-word_fits [] h i = omega arith
-word_fits (w ∷ ws) h zero = h.0
-word_fits (w ∷ ws) h (suc i) = word_fits ws h.1 i
+-- a region of an image of words
+words_at : (image : List (List ℕ)) (r : ℕ) → AllAreWords image → slice_get image r ≡ Some (words_in image r) → AreWords (words_in image r)
+words_at image r all at = All-from_recursion AreWords image all r [] (slice_get_within image r (words_in image r) at)
 
 loaded_run : (base : List (List ℕ)) (first : ℕ) (r : ℕ) → AreWords (words_in base r) → RegionRun base (record { first = first; records = [] }) r (loaded (words_in base r))
 loaded_run base first r words = record {
-  protected = loaded_keeps (words_in base r) words.0 (word_fits (words_in base r) words.1);
+  protected = loaded_keeps (words_in base r) words;
   reads = tt;
   touches = refl;
   sound = λ i a e on below. absurd (cc);
@@ -100,7 +100,7 @@ load_runs bases s L g limit v rest fits whole words = record {
   };
   whole = length-map (base_at bases L) loaded ∙ whole;
   base = whole;
-  regions = λ r h e. subst (λ z. RegionRun (bases z.first) z r h) (as_empty (last_epoch L) rest.none) (subst (λ z. RegionRun (base_at bases L) (record { first = (last_epoch L).first; records = [] }) r z) (sym (get_map (base_at bases L) r h e)) (loaded_run (base_at bases L) (last_epoch L).first r (words r (words_in (base_at bases L) r) (get_region (base_at bases L) r h e))));
+  regions = λ r h e. subst (λ z. RegionRun (bases z.first) z r h) (as_empty (last_epoch L) rest.none) (subst (λ z. RegionRun (base_at bases L) (record { first = (last_epoch L).first; records = [] }) r z) (sym (get_map (base_at bases L) r h e)) (loaded_run (base_at bases L) (last_epoch L).first r (words_at (base_at bases L) r words (get_region (base_at bases L) r h e))));
 }
   where
     number : (e : Epoch) → e.records ≡ [] → e.first ≡ g.count → e.first + length e.records ≡ g.count

@@ -45,10 +45,8 @@ reads_same o fits = if_dead (λ h. h.read < 2 ^ 64) o (λ h k. k) fits
 
 pub dead_keeps : (g : RegionState) → IsProtected g → IsProtected (dead g)
 dead_keeps g p = record {
-  size = p.size;
-  back_size = p.back_size;
-  fits = p.fits;
-  back_fits = p.back_fits;
+  words = p.words;
+  back = p.back;
   codeword = p.codeword;
   rest = λ i out. p.rest i (sym (same_written g.hold i) ∙ out);
   within = p.within;
@@ -60,12 +58,10 @@ dead_keeps g p = record {
 }
 
 -- ---- an audit, and a copy
-pub checked_keeps : (g : RegionState) → IsProtected g → IsProtected (checked g)
-checked_keeps g p = record {
-  size = p.size;
-  back_size = p.back_size;
-  fits = p.fits;
-  back_fits = p.back_fits;
+marked_keeps : (g : RegionState) (a b m : Bool) → IsProtected g → (g.poked ≡ false → m ≡ false) → IsProtected (record g { dirty_a = a; dirty_b = b; missed = m })
+marked_keeps g a b m p missed = record {
+  words = p.words;
+  back = p.back;
   codeword = p.codeword;
   rest = p.rest;
   within = p.within;
@@ -73,8 +69,11 @@ checked_keeps g p = record {
   no_stray = p.no_stray;
   reads = p.reads;
   writes = p.writes;
-  none_missed = λ un. none g.missed g.poked (g.stray == 0) (p.none_missed un) un;
+  none_missed = missed;
 }
+
+pub checked_keeps : (g : RegionState) → IsProtected g → IsProtected (checked g)
+checked_keeps g p = marked_keeps g g.dirty_a g.dirty_b (g.missed || (g.poked && (g.stray == 0))) p (λ un. none g.missed g.poked (g.stray == 0) (p.none_missed un) un)
   where
     none : (a b c : Bool) → a ≡ false → b ≡ false → (a || (b && c)) ≡ false
     none true b c e f = absurd (cc)
@@ -82,31 +81,5 @@ checked_keeps g p = record {
     none false false c e f = refl
 
 pub cleaned_keeps : (side : Side) (g : RegionState) → IsProtected g → IsProtected (cleaned side g)
-cleaned_keeps A g p = record {
-  size = p.size;
-  back_size = p.back_size;
-  fits = p.fits;
-  back_fits = p.back_fits;
-  codeword = p.codeword;
-  rest = p.rest;
-  within = p.within;
-  all_sound = p.all_sound;
-  no_stray = p.no_stray;
-  reads = p.reads;
-  writes = p.writes;
-  none_missed = p.none_missed;
-}
-cleaned_keeps B g p = record {
-  size = p.size;
-  back_size = p.back_size;
-  fits = p.fits;
-  back_fits = p.back_fits;
-  codeword = p.codeword;
-  rest = p.rest;
-  within = p.within;
-  all_sound = p.all_sound;
-  no_stray = p.no_stray;
-  reads = p.reads;
-  writes = p.writes;
-  none_missed = p.none_missed;
-}
+cleaned_keeps A g p = marked_keeps g false g.dirty_b g.missed p p.none_missed
+cleaned_keeps B g p = marked_keeps g g.dirty_a false g.missed p p.none_missed

@@ -2,6 +2,7 @@
 use Rattle.std.proofs.Common.{◌≡◌, ℕ, Bool, true, false, cond, List, [], ◌∷◌, ◌++◌, length, take, Option, Some, None, refl, ap, sym, subst, ◌∙◌, inl, inr, ⊎_elim, arith, ◌<◌, ◌^◌}
 use Rattle.std.specs.Prelude.{IsSome, is_some, ◌==◌, ◌&&◌}
 use Rattle.std.proofs.lemmas.List.{length-set, take_all}
+use Rattle.dali_geometry.specs.Sizes.{Sizes}
 use Rattle.dali_record.specs.declared.records.Record.{Record}
 use Rattle.dali_record.specs.Blocks.{changes_item}
 use Rattle.dali_record.specs.Epochs.{Epoch, last_epoch}
@@ -11,6 +12,7 @@ use Rattle.dali_region.specs.State.{RegionState, IsProtected, latched, with_read
 use Rattle.dali_region.proofs.Holds.{latched_keeps, taken_back_keeps, poked_keeps}
 use Rattle.dali_locks.specs.declared.mode.Mode.{Mode}
 use Rattle.dali_locks.specs.declared.mode.Mode.TheVariants.{Shared, Exclusive}
+use Rattle.dali_locks.specs.declared.mode.LockAnswer.TheVariants.{Granted, Busy}
 use Rattle.dali_att.specs.declared.state.State.{State}
 use Rattle.dali_att.specs.declared.state.State.TheVariants.{Live, Dead, Cleaning, Committed}
 use Rattle.dali_system.specs.State.{TxnRow, SystemState, CoreState, lock_of, row_of, state_in}
@@ -18,8 +20,8 @@ use Rattle.dali_system.specs.declared.refusals.Refusal.{Refusal}
 use Rattle.dali_system.specs.declared.causes.Cause.{Cause}
 use Rattle.dali_system.specs.declared.causes.Cause.TheVariants.{Damage, Store}
 use Rattle.dali_system.specs.Run.{CountRun, is_committed, IsRow, TableRun, covers, IsRefusal, is_running, LockRun, damage_in, RegionRun, Bases, base_at, RunsOn}
-use Rattle.dali_locks.specs.Locks.{both_shared, IsConflict, Locks, stronger_mode, locks_with}
-use Rattle.dali_system.specs.Steps.{stopped_by}
+use Rattle.dali_locks.specs.Locks.{both_shared, IsAnswer, IsConflict, Locks, stronger_mode, locks_with}
+use Rattle.dali_system.specs.Steps.{granted, refused, stopped_by}
 use Rattle.dali_system.specs.Keeps.{with_system, moves_to, GrantKeeps, RefuseKeeps, RegionKeeps, StopKeeps, StateKeeps, CheckpointFlagKeeps}
 use Rattle.dali_counts.proofs.Tallies.{tallies}
 use Rattle.dali_system.proofs.AuditSteps.{RegionRun-checked}
@@ -59,34 +61,34 @@ RunsOn-held bases L c run T K R b table locks = record {
 }
 
 -- ---- a lock that is granted
-pub stronger_covers : (o : Option Mode) (m : Mode) (d : Bool) → covers o d ≡ true → covers (Some (stronger_mode o m)) d ≡ true
+stronger_covers : (o : Option Mode) (m : Mode) (d : Bool) → covers o d ≡ true → covers (Some (stronger_mode o m)) d ≡ true
 stronger_covers None m d e = absurd (cc)
 stronger_covers (Some Shared) Shared d e = e
 stronger_covers (Some Shared) Exclusive d e = refl
 stronger_covers (Some Exclusive) m d e = refl
 
-pub shared_sym : (m n : Mode) → both_shared m n ≡ true → both_shared n m ≡ true
+shared_sym : (m n : Mode) → both_shared m n ≡ true → both_shared n m ≡ true
 shared_sym Shared Shared e = refl
 shared_sym Shared Exclusive e = absurd (cc)
 shared_sym Exclusive n e = absurd (cc)
 
 -- a mode that clashes with another one clashes with a stronger one
-pub stronger_clash : (n o m : Mode) → both_shared n o ≡ false → both_shared n (stronger_mode (Some o) m) ≡ false
+stronger_clash : (n o m : Mode) → both_shared n o ≡ false → both_shared n (stronger_mode (Some o) m) ≡ false
 stronger_clash Shared Shared m e = absurd (cc)
 stronger_clash Shared Exclusive m e = refl
 stronger_clash Exclusive o m e = refl
 
-pub grant_keeps : GrantKeeps
-grant_keeps bases L c t k m run here free = RunsOn-held bases L c run y.table K y.refusals y.checking run.table (record {
-  held = λ i a e. ⊎_elim (λ w. inl w) (λ h. inr (rw (at a.owner a.block.key) (still a.owner a.block.key (changes_item a.block) ((t == a.owner) && (k == a.block.key)) h))) (run.locks.held i a e);
+pub lock_granted :
+    (s : Sizes) (L : List Record) (y : SystemState) (t k : ℕ) (m : Mode) → LockRun s L y
+    → IsSome (row_of y t) → IsAnswer y.locks t k m Granted
+    → LockRun s L (granted y t k m)
+lock_granted s L y t k m run here free = record {
+  held = λ i a e. ⊎_elim (λ w. inl w) (λ h. inr (rw (at a.owner a.block.key) (still a.owner a.block.key (changes_item a.block) ((t == a.owner) && (k == a.block.key)) h))) (run.held i a e);
   apart = λ u v l p q d e f. apart u v l p q d ((t == u) && (k == l)) refl ((t == v) && (k == l)) refl (sym (at u l) ∙ e) (sym (at v l) ∙ f);
   owned = λ u l p e. owned u l p ((t == u) && (k == l)) refl (sym (at u l) ∙ e);
-  refused = λ n f e. refusal f (run.locks.refused n f e);
-})
+  refused = λ n f e. refusal f (run.refused n f e);
+}
   where
-    y : SystemState
-    y = c.system
-
     K : Locks
     K = locks_with y.locks t k m
 
@@ -99,7 +101,7 @@ grant_keeps bases L c t k m run here free = RunsOn-held bases L c run y.table K 
 
     owned : (u l : ℕ) (p : Mode) (b : Bool) → ((t == u) && (k == l)) ≡ b → cond b (Some (stronger_mode (lock_of y u l) m)) (lock_of y u l) ≡ Some p → IsSome (row_of y u)
     owned u l p true e f = subst (λ v. IsSome (row_of y v)) (eqb-true t u (left_true (t == u) (k == l) e)) here
-    owned u l p false e f = run.locks.owned u l p f
+    owned u l p false e f = run.owned u l p f
 
     -- what was in the way of a request is in its way in a stronger mode too
     in_the_way : (f : Refusal) → IsConflict y.locks f.txn f.key f.mode f.holder → IsConflict K f.txn f.key f.mode f.holder
@@ -119,7 +121,7 @@ grant_keeps bases L c t k m run here free = RunsOn-held bases L c run y.table K 
           clash = way.clash;
         }
 
-    refusal : (f : Refusal) → IsRefusal y.sizes L y.locks f → IsRefusal y.sizes L K f
+    refusal : (f : Refusal) → IsRefusal s L y.locks f → IsRefusal s L K f
     refusal f old = record { older = old.older; within = old.within; asking = old.asking; running = old.running; conflict = ⊎_elim (λ w. inl w) (λ way. inr (in_the_way f way)) old.conflict }
 
     -- t has the lock, v another one's
@@ -130,51 +132,61 @@ grant_keeps bases L c t k m run here free = RunsOn-held bases L c run y.table K 
         let is : stronger_mode (lock_of y u l) m ≡ p = some_same f in
         let apart_t : (t == v) ≡ false = ap (λ z. z == v) tu ∙ d in
         let at_k : lock_of y v k ≡ Some q = ap (λ z. lock_of y v z) kl ∙ g in
-        subst (λ z. both_shared z q ≡ true) is (stronger_apart (lock_of y u l) m q (λ z h. run.locks.apart u v l z q d h g) (free v q apart_t at_k))
+        subst (λ z. both_shared z q ≡ true) is (stronger_apart (lock_of y u l) m q (λ z h. run.apart u v l z q d h g) (free v q apart_t at_k))
 
     apart : (u v l : ℕ) (p q : Mode) → (u == v) ≡ false → (a : Bool) → ((t == u) && (k == l)) ≡ a → (b : Bool) → ((t == v) && (k == l)) ≡ b → cond a (Some (stronger_mode (lock_of y u l) m)) (lock_of y u l) ≡ Some p → cond b (Some (stronger_mode (lock_of y v l) m)) (lock_of y v l) ≡ Some q → both_shared p q ≡ true
     apart u v l p q d true e true f g h = let same : u ≡ v = sym (eqb-true t u (left_true (t == u) (k == l) e)) ∙ eqb-true t v (left_true (t == v) (k == l) f) in let is : (u == v) ≡ true = eq-eqb u v same in absurd (cc)
     apart u v l p q d true e false f g h = against u v l p q d e g h
     apart u v l p q d false e true f g h = shared_sym q p (against v u l q p (eqb_turned u v d) f h g)
-    apart u v l p q d false e false f g h = run.locks.apart u v l p q d g h
+    apart u v l p q d false e false f g h = run.apart u v l p q d g h
+
+pub grant_keeps : GrantKeeps
+grant_keeps bases L c t k m run here free =
+    RunsOn-held bases L c run c.system.table (locks_with c.system.locks t k m) c.system.refusals c.system.checking run.table
+    (lock_granted c.system.sizes L c.system t k m run.locks here free)
 
 -- ---- a lock that is refused
-pub row_running : (o : Option TxnState) (row : Option TxnRow) → IsRow o row → IsSome row → is_running o ≡ true
+row_running : (o : Option TxnState) (row : Option TxnRow) → IsRow o row → IsSome row → is_running o ≡ true
 row_running None row r h = absurd r
 row_running (Some Unbegun) row r h = let none : is_some row ≡ false = ap is_some r in absurd (cc)
 row_running (Some (Active w)) row r h = refl
 row_running (Some (Ending ps)) row r h = refl
 row_running (Some Over) row r h = let none : is_some row ≡ false = ap is_some r in absurd (cc)
 
-pub refuse_keeps : RefuseKeeps
-refuse_keeps bases L c t k h m run here_is busy = RunsOn-held bases L c run y.table y.locks (y.refusals ++ new ∷ []) y.checking run.table (record {
-  held = run.locks.held;
-  apart = run.locks.apart;
-  owned = run.locks.owned;
-  refused = λ n f e. ⊎_elim (λ old. run.locks.refused n f old.1) (λ last. subst (λ f. IsRefusal y.sizes L y.locks f) last.1 here) (get_push_cases y.refusals new n f e);
-})
+pub lock_refused :
+    (s : Sizes) (L : List Record) (y : SystemState) (t k h : ℕ) (m : Mode) → LockRun s L y
+    → TableRun s L y.table → y.records ≡ length L → IsSome (row_of y t) → IsAnswer y.locks t k m (Busy h)
+    → LockRun s L (refused y t k m h)
+lock_refused s L y t k h m run table all here_is busy = record {
+  held = run.held;
+  apart = run.apart;
+  owned = run.owned;
+  refused = λ n f e. ⊎_elim (λ old. run.refused n f old.1) (λ last. subst (λ f. IsRefusal s L y.locks f) last.1 here) (get_push_cases y.refusals new n f e);
+}
   where
-    y : SystemState
-    y = c.system
-
     new : Refusal
     new = record { txn = t; key = k; mode = m; holder = h; at = y.records }
 
-    all : y.records ≡ length L
-    all = run.counts.records ∙ (tallies y.sizes L run.counts.now run.counts.rules).0
-
     -- a transaction of the table runs, behind all records so far
-    runs : (u : ℕ) → IsSome (row_of y u) → is_running (txn_state y.sizes u (take y.records L)) ≡ true
-    runs u some = ap (λ l. is_running (txn_state y.sizes u l)) (ap (λ n. take n L) all ∙ take_all (length L) L (omega arith)) ∙ row_running (txn_state y.sizes u L) (row_of y u) (run.table u) some
+    runs : (u : ℕ) → IsSome (row_of y u) → is_running (txn_state s u (take y.records L)) ≡ true
+    runs u some = ap (λ l. is_running (txn_state s u l)) (ap (λ n. take n L) all ∙ take_all (length L) L (omega arith)) ∙ row_running (txn_state s u L) (row_of y u) (table u) some
 
-    here : IsRefusal y.sizes L y.locks new
+    here : IsRefusal s L y.locks new
     here = record {
       older = busy.1;
       within = omega (arith, all);
       asking = runs t here_is;
-      running = runs h (run.locks.owned h k busy.0.conflict.mode busy.0.conflict.holds);
+      running = runs h (run.owned h k busy.0.conflict.mode busy.0.conflict.holds);
       conflict = inr busy.0.conflict;
     }
+
+pub refuse_keeps : RefuseKeeps
+refuse_keeps bases L c t k h m run here_is busy =
+    RunsOn-held bases L c run c.system.table c.system.locks (c.system.refusals ++ record { txn = t; key = k; mode = m; holder = h; at = c.system.records } ∷ []) c.system.checking run.table
+    (lock_refused c.system.sizes L c.system t k h m run.locks run.table all here_is busy)
+  where
+    all : c.system.records ≡ length L
+    all = run.counts.records ∙ (tallies c.system.sizes L run.counts.now run.counts.rules).0
 
 -- ---- one region
 -- what a run says of a region is left
@@ -271,10 +283,7 @@ none_committed (Cleaning o) Live e = absurd (cc)
 none_committed (Cleaning o) (Dead q) e = (refl, refl)
 none_committed (Cleaning o) (Cleaning q) e = absurd (cc)
 none_committed (Cleaning o) Committed e = absurd (cc)
-none_committed Committed Live e = absurd (cc)
-none_committed Committed (Dead q) e = absurd (cc)
-none_committed Committed (Cleaning q) e = absurd (cc)
-none_committed Committed Committed e = absurd (cc)
+none_committed Committed _ e = absurd (cc)
 
 -- a transaction with a state has a row
 pub row_with : (o : Option TxnRow) (st : State) → state_in o ≡ Some st → (row : TxnRow) × (o ≡ Some row) × (row.state ≡ st)

@@ -1,6 +1,6 @@
 -- Each step that logs a record of a transaction keeps a run.
-use Rattle.std.proofs.Common.{◌≡◌, ℕ, ◌+◌, ◌<◌, ◌≤◌, Bool, true, false, cond, List, [], ◌∷◌, ◌++◌, Option, Some, None, refl, ap, sym, subst, ◌∙◌, ◌⊎◌, inl, inr, ⊎_elim, arith}
-use Rattle.std.specs.Prelude.{IsSome, is_some, ◌==◌, not, slice_set, ◌^◌}
+use Rattle.std.proofs.Common.{◌≡◌, ℕ, ◌+◌, ◌<◌, ◌≤◌, Bool, true, false, cond, List, [], ◌∷◌, ◌++◌, length, Option, Some, None, refl, ap, sym, subst, ◌∙◌, ◌⊎◌, inl, inr, ⊎_elim, arith}
+use Rattle.std.specs.Prelude.{IsSome, is_some, ◌==◌, not, slice_get, slice_set, ◌^◌}
 use Rattle.std.proofs.lemmas.List.{length-set}
 use Rattle.std.proofs.lemmas.Bool.{cases_lt, ne_eqb, le-leb, eqb-true, or_cases, eq-eqb}
 use Rattle.dali_geometry.specs.Sizes.{Sizes}
@@ -10,9 +10,10 @@ use Rattle.dali_record.specs.declared.records.Call.{Call}
 use Rattle.dali_record.specs.declared.records.Answer.{Answer}
 use Rattle.dali_record.specs.declared.records.Record.{Record}
 use Rattle.dali_record.specs.declared.records.Record.TheVariants.{Format, Begin, Forward, Done, Commit, Ended, Solo, AuditClean, AuditFail, Restarted, Back}
-use Rattle.dali_record.specs.Log.{Touch, undo_added, drop_last, last_of}
+use Rattle.dali_record.specs.Log.{Touch, touch_of, undo_added, drop_last, last_of}
+use Rattle.dali_record.specs.Epochs.{last_epoch}
 use Rattle.dali_record.specs.Calls.{Progress, Fresh, follow}
-use Rattle.dali_record.specs.Spelling.{record_length}
+use Rattle.dali_record.specs.Spelling.{record_length, CanBeSpelled}
 use Rattle.dali_record.specs.Operations.{undo_op}
 use Rattle.dali_record.specs.Legal.{TxnState, Unbegun, Active, Committed as Ending, Over, Working, txn_state, txn_next, txn_step, concerns, Rules, rules_state, rules_next, runs, passes, has_room, room, on_kind, either_state, allowed, goes_on, starts, forward, back, is_onward, is_level, is_of, is_answer, is_none_left, dead_of, freed, rested}
 use Rattle.dali_record.proofs.Pushes.{txn_state_push}
@@ -20,19 +21,20 @@ use Rattle.dali_locks.specs.declared.mode.Mode.{Mode}
 use Rattle.dali_att.specs.declared.state.State.{State}
 use Rattle.dali_att.specs.declared.state.State.TheVariants.{Live, Committed}
 use Rattle.dali_system.specs.State.{TxnRow, SystemState, CoreState}
-use Rattle.dali_system.specs.Run.{is_committed, IsRow, TableRun, holds, Bases, RunsOn}
-use Rattle.dali_region.specs.State.{touched}
+use Rattle.dali_system.specs.Run.{is_committed, IsRow, TableRun, holds, RegionRun, Bases, base_at, RunsOn}
+use Rattle.dali_region.specs.State.{RegionState, touched}
 use Rattle.dali_system.specs.Steps.{committed_row, undo_kept}
-use Rattle.dali_system.specs.Keeps.{IsNext, BeginKeeps, OpKeeps, BackKeeps, SoloKeeps, DoneKeeps, CommitKeeps, EndedKeeps}
-use Rattle.dali_system.proofs.OneMore.{TableRun-push, is_plain}
-use Rattle.dali_system.proofs.Logging.{RunsOn-logged, TableRun-one, regions_quiet, regions_touched}
+use Rattle.dali_system.specs.Keeps.{IsNext, MayLogBlock, BeginKeeps, OpKeeps, BackKeeps, SoloKeeps, DoneKeeps, CommitKeeps, EndedKeeps}
+use Rattle.dali_system.proofs.OneMore.{TableRun-push, is_plain, one_more}
+use Rattle.dali_system.proofs.Logging.{Fitting, RunsOn-logged, TableRun-one, regions_quiet, regions_touched}
+use Rattle.dali_counts.specs.Counts.{next_with}
 use Rattle.dali_counts.proofs.SmallLogs.{next_is_small, never_solo}
 use Rattle.dali_system.proofs.Tables.{added, changed, dropped, ended, kept, some_changed, some_with, still_there, with_undos}
 use Rattle.std.specs.FinMap.{get, insert, remove}
 use Rattle.std.specs.Option.{option_map}
 use Rattle.dali_lists.proofs.Numbers.{eqb-self}
 use Rattle.dali_att.specs.Table.{Table, fresh_row, with_row, without_last}
-use Rattle.dali_locks.specs.Locks.{locks_without}
+use Rattle.dali_locks.specs.Locks.{Locks, locks_without}
 use Rattle.dali_locks.proofs.Kept.{locks_without_at}
 
 -- ---- the rules of the whole log
@@ -200,36 +202,79 @@ of_touch {t = t} {p = p} {b = b} y a e h = let same : record { txn = t; owner = 
 of_open : (t p : ℕ) (b : Block) → not (b.read == 0) ≡ true → (a : Touch) → Some (record { txn = t; owner = p; block = b }) ≡ Some a → not (a.block.read == 0) ≡ true
 of_open t p b h a e = let same : record { txn = t; owner = p; block = b } ≡ a = cc in subst (λ (q : Touch). not (q.block.read == 0) ≡ true) same h
 
+-- ---- a record of a transaction that has begun, which gives no number
+fits_own :
+    (bases : Bases) (L : List Record) (c : CoreState) (run : RunsOn bases L c)
+    (t : ℕ) (x : Record) (T : Table Pending) (K : Locks) (rs : List RegionState)
+    → is_plain x ≡ true → run.counts.now.next ≡ next_with x run.counts.now.next → ((u : ℕ) → concerns u x ≡ (t == u))
+    → t < run.counts.now.next
+    → rules_next c.system.sizes (rules_state c.system.sizes L) x ≡ Some (passes run.counts.now x)
+    → CanBeSpelled x
+    → TableRun c.system.sizes (L ++ x ∷ []) T
+    → ((u k : ℕ) → (x ≡ Ended u) ⊎ (get K (u, k) ≡ get c.system.locks (u, k)))
+    → ((u k : ℕ) (m : Mode) → get K (u, k) ≡ Some m → (get c.system.locks (u, k) ≡ Some m) × IsSome (get T u))
+    → ((a : Touch) → touch_of x ≡ Some a → (not (a.block.read == 0) ≡ true) × (holds c.system a.owner a.block ≡ true))
+    → length rs ≡ length c.regions
+    → ((r : ℕ) (g : RegionState) → slice_get rs r ≡ Some g → RegionRun (base_at bases L) (one_more (last_epoch L) x) r g)
+    → Fitting bases L c x run.counts.now T K rs
+fits_own bases L c run t x T K rs plain same only was rule spelled table keeps fewer touch whole regions = record {
+  plain = plain;
+  then = passes run.counts.now x;
+  rule = rule;
+  count = refl;
+  weight = refl;
+  next = same;
+  failed = refl;
+  grows = omega arith;
+  known = λ u h. only u ∙ apart_above t run.counts.now.next u was h;
+  spelled = spelled;
+  reads = λ a e. (touch a e).0;
+  table = table;
+  keeps = keeps;
+  fewer = fewer;
+  owner = λ a e. (touch a e).1;
+  whole = whole;
+  regions = regions;
+}
+
+-- with a block, which touches its region
+fits_touching :
+    (bases : Bases) (L : List Record) (c : CoreState) (run : RunsOn bases L c)
+    (t : ℕ) (x : Record) (b : Block) (g : RegionState) (T : Table Pending)
+    → is_plain x ≡ true → run.counts.now.next ≡ next_with x run.counts.now.next → ((u : ℕ) → concerns u x ≡ (t == u))
+    → touch_of x ≡ Some (record { txn = t; owner = t; block = b })
+    → txn_step c.system.sizes t Unbegun x ≡ None
+    → MayLogBlock L c x t b g
+    → rules_next c.system.sizes (rules_state c.system.sizes L) x ≡ Some (passes run.counts.now x)
+    → TableRun c.system.sizes (L ++ x ∷ []) T
+    → ((u k : ℕ) (m : Mode) → get c.system.locks (u, k) ≡ Some m → IsSome (get T u))
+    → Fitting bases L c x run.counts.now T c.system.locks (slice_set c.regions b.region (touched g))
+fits_touching bases L c run t x b g T plain same only is none may rule table there =
+    fits_own bases L c run t x T c.system.locks (slice_set c.regions b.region (touched g)) plain same only
+    (given bases L c run t x may.next none)
+    rule
+    may.spelled
+    table
+    (λ u k. inr refl)
+    (λ u k m e. (e, there u k m e))
+    (λ a e. (of_open t t b may.is_open.reads a (sym is ∙ e), of_touch {t = t} {p = t} {b = b} c.system a (sym is ∙ e) may.locked))
+    (length-set c.regions b.region (touched g))
+    (regions_touched bases L c run x (record { txn = t; owner = t; block = b }) g t plain is may.at may.is_open)
+
 -- ---- an operation
 op_rule : (s : Sizes) (now : Rules) (t : ℕ) (b : Block) → on_kind s b.region b.op ≡ true → has_room now (Forward t b) ≡ true → runs s now (Forward t b) ≡ Some (passes now (Forward t b))
 op_rule s now t b e f = rw (e, f) refl
 
 pub op_keeps : OpKeeps
-op_keeps bases L c t b g run has may = RunsOn-logged bases L c run x (undo_kept c.system.table t b b.undo) c.system.locks (slice_set c.regions b.region (touched g)) (record {
-  plain = refl;
-  then = passes now x;
-  rule = rule_of bases L c run x refl may.runs ∙ op_rule s now t b may.kind (has_it bases L c run x has.room);
-  count = refl;
-  weight = refl;
-  next = refl;
-  failed = refl;
-  grows = omega arith;
-  known = λ u h. apart_above t now.next u (given bases L c run t x may.next (rw (eqb-self t) refl)) h;
-  spelled = may.spelled;
-  reads = of_open t t b may.is_open.reads;
-  table = TableRun-one s L x c.system.table t _ _ run.table (kept c.system.table t b b.undo) (λ u. refl) (op_row s t b (txn_state s t L) (get c.system.table t) (run.table t) (next_at s L t x may.next));
-  keeps = λ u k. inr refl;
-  fewer = λ u k m e. (e, still_there c.system.table t _ _ (kept c.system.table t b b.undo) (some_with _ (get c.system.table t)) u (run.locks.owned u k m e));
-  owner = λ a e. of_touch c.system a e may.locked;
-  whole = length-set c.regions b.region (touched g);
-  regions = regions_touched bases L c run x (record { txn = t; owner = t; block = b }) g t refl refl may.at may.is_open;
-})
+op_keeps bases L c t b g run has may =
+    RunsOn-logged bases L c run x (undo_kept c.system.table t b b.undo) c.system.locks (slice_set c.regions b.region (touched g))
+    (fits_touching bases L c run t x b g (undo_kept c.system.table t b b.undo) refl refl (λ u. refl) refl (rw (eqb-self t) refl) may
+    (rule_of bases L c run x refl may.runs ∙ op_rule s run.counts.now t b may.kind (has_it bases L c run x has.room))
+    (TableRun-one s L x c.system.table t _ _ run.table (kept c.system.table t b b.undo) (λ u. refl) (op_row s t b (txn_state s t L) (get c.system.table t) (run.table t) (next_at s L t x may.next)))
+    (λ u k m e. still_there c.system.table t _ _ (kept c.system.table t b b.undo) (some_with _ (get c.system.table t)) u (run.locks.owned u k m e)))
   where
     s : Sizes
     s = c.system.sizes
-
-    now : Rules
-    now = run.counts.now
 
     x : Record
     x = Forward t b
@@ -239,31 +284,15 @@ back_rule : (s : Sizes) (now : Rules) (t : ℕ) (b : Block) → on_kind s b.regi
 back_rule s now t b e = rw e refl
 
 pub back_keeps : BackKeeps
-back_keeps bases L c t b g run may = RunsOn-logged bases L c run x (with_row c.system.table t without_last) c.system.locks (slice_set c.regions b.region (touched g)) (record {
-  plain = refl;
-  then = passes now x;
-  rule = rule_of bases L c run x refl may.runs ∙ back_rule s now t b may.kind;
-  count = refl;
-  weight = refl;
-  next = refl;
-  failed = refl;
-  grows = omega arith;
-  known = λ u h. apart_above t now.next u (given bases L c run t x may.next (rw (eqb-self t) refl)) h;
-  spelled = may.spelled;
-  reads = of_open t t b may.is_open.reads;
-  table = TableRun-one s L x c.system.table t _ _ run.table (dropped c.system.table t) (λ u. refl) (back_row s t b (txn_state s t L) (get c.system.table t) (run.table t) (next_at s L t x may.next));
-  keeps = λ u k. inr refl;
-  fewer = λ u k m e. (e, still_there c.system.table t _ _ (dropped c.system.table t) (some_with drop_last (get c.system.table t)) u (run.locks.owned u k m e));
-  owner = λ a e. of_touch c.system a e may.locked;
-  whole = length-set c.regions b.region (touched g);
-  regions = regions_touched bases L c run x (record { txn = t; owner = t; block = b }) g t refl refl may.at may.is_open;
-})
+back_keeps bases L c t b g run may =
+    RunsOn-logged bases L c run x (with_row c.system.table t without_last) c.system.locks (slice_set c.regions b.region (touched g))
+    (fits_touching bases L c run t x b g (with_row c.system.table t without_last) refl refl (λ u. refl) refl (rw (eqb-self t) refl) may
+    (rule_of bases L c run x refl may.runs ∙ back_rule s run.counts.now t b may.kind)
+    (TableRun-one s L x c.system.table t _ _ run.table (dropped c.system.table t) (λ u. refl) (back_row s t b (txn_state s t L) (get c.system.table t) (run.table t) (next_at s L t x may.next)))
+    (λ u k m e. still_there c.system.table t _ _ (dropped c.system.table t) (some_with drop_last (get c.system.table t)) u (run.locks.owned u k m e)))
   where
     s : Sizes
     s = c.system.sizes
-
-    now : Rules
-    now = run.counts.now
 
     x : Record
     x = Back t b
@@ -273,102 +302,69 @@ done_rule : (s : Sizes) (now : Rules) (t : ℕ) (k : Call) (a : Answer) → has_
 done_rule s now t k a e = rw e refl
 
 pub done_keeps : DoneKeeps
-done_keeps bases L c t k a run may spelled next = RunsOn-logged bases L c run x c.system.table c.system.locks c.regions (record {
-  plain = refl;
-  then = passes now x;
-  rule = rule_of bases L c run x refl may.runs ∙ done_rule s now t k a (has_it bases L c run x may.room);
-  count = refl;
-  weight = refl;
-  next = refl;
-  failed = refl;
-  grows = omega arith;
-  known = λ u h. apart_above t now.next u (given bases L c run t x next (rw (eqb-self t) refl)) h;
-  spelled = spelled;
-  reads = λ q e. absurd (cc);
-  table = TableRun-same s L x c.system.table t run.table (λ u. refl) (done_row s t k a (txn_state s t L) (get c.system.table t) (run.table t) (next_at s L t x next));
-  keeps = λ u l. inr refl;
-  fewer = λ u l m e. (e, run.locks.owned u l m e);
-  owner = λ q e. absurd (cc);
-  whole = refl;
-  regions = regions_quiet bases L c run x refl refl;
-})
+done_keeps bases L c t k a run may spelled next =
+    RunsOn-logged bases L c run x c.system.table c.system.locks c.regions
+    (fits_own bases L c run t x c.system.table c.system.locks c.regions refl refl (λ u. refl) (given bases L c run t x next (rw (eqb-self t) refl))
+    (rule_of bases L c run x refl may.runs ∙ done_rule s run.counts.now t k a (has_it bases L c run x may.room))
+    spelled
+    (TableRun-same s L x c.system.table t run.table (λ u. refl) (done_row s t k a (txn_state s t L) (get c.system.table t) (run.table t) (next_at s L t x next)))
+    (λ u l. inr refl)
+    (λ u l m e. (e, run.locks.owned u l m e))
+    (λ q e. absurd (cc)) refl (regions_quiet bases L c run x refl refl))
   where
     s : Sizes
     s = c.system.sizes
-
-    now : Rules
-    now = run.counts.now
 
     x : Record
     x = Done t k a
 
 -- ---- the commit record
 pub commit_keeps : CommitKeeps
-commit_keeps bases L c t run runs next = RunsOn-logged bases L c run x (with_row c.system.table t committed_row) c.system.locks c.regions (record {
-  plain = refl;
-  then = passes now x;
-  rule = rule_of bases L c run x refl runs;
-  count = refl;
-  weight = refl;
-  next = refl;
-  failed = refl;
-  grows = omega arith;
-  known = λ u h. apart_above t now.next u (given bases L c run t x next (rw (eqb-self t) refl)) h;
-  spelled = small;
-  reads = λ q e. absurd (cc);
-  table = TableRun-one s L x c.system.table t _ _ run.table (changed c.system.table t committed_row) (λ u. refl) (commit_row s t (txn_state s t L) (get c.system.table t) (run.table t) (next_at s L t x next));
-  keeps = λ u l. inr refl;
-  fewer = λ u l m e. (e, still_there c.system.table t _ _ (changed c.system.table t committed_row) (some_changed committed_row (get c.system.table t)) u (run.locks.owned u l m e));
-  owner = λ q e. absurd (cc);
-  whole = refl;
-  regions = regions_quiet bases L c run x refl refl;
-})
+commit_keeps bases L c t run runs next =
+    RunsOn-logged bases L c run x (with_row c.system.table t committed_row) c.system.locks c.regions
+    (fits_own bases L c run t x (with_row c.system.table t committed_row) c.system.locks c.regions refl refl (λ u. refl) was
+    (rule_of bases L c run x refl runs)
+    small
+    (TableRun-one s L x c.system.table t _ _ run.table (changed c.system.table t committed_row) (λ u. refl) (commit_row s t (txn_state s t L) (get c.system.table t) (run.table t) (next_at s L t x next)))
+    (λ u l. inr refl)
+    (λ u l m e. (e, still_there c.system.table t _ _ (changed c.system.table t committed_row) (some_changed committed_row (get c.system.table t)) u (run.locks.owned u l m e)))
+    (λ q e. absurd (cc)) refl (regions_quiet bases L c run x refl refl))
   where
     s : Sizes
     s = c.system.sizes
-
-    now : Rules
-    now = run.counts.now
 
     x : Record
     x = Commit t
 
+    was : t < run.counts.now.next
+    was = given bases L c run t x next (rw (eqb-self t) refl)
+
     small : t < 2 ^ 64
-    small = omega (arith, given bases L c run t x next (rw (eqb-self t) refl), next_is_small s L now run.log.legal run.counts.rules)
+    small = omega (arith, was, next_is_small s L run.counts.now run.log.legal run.counts.rules)
 
 -- ---- the end of a transaction
 pub ended_keeps : EndedKeeps
-ended_keeps bases L c t run runs next = RunsOn-logged bases L c run x (remove c.system.table t) (locks_without c.system.locks t) c.regions (record {
-  plain = refl;
-  then = passes now x;
-  rule = rule_of bases L c run x refl runs;
-  count = refl;
-  weight = refl;
-  next = refl;
-  failed = refl;
-  grows = omega arith;
-  known = λ u h. apart_above t now.next u (given bases L c run t x next (rw (eqb-self t) refl)) h;
-  spelled = small;
-  reads = λ q e. absurd (cc);
-  table = TableRun-one s L x c.system.table t None _ run.table (ended c.system.table t) (λ u. refl) (ended_row s t (txn_state s t L) (get c.system.table t) (run.table t) (next_at s L t x next));
-  keeps = λ u l. keeps u l (t == u) refl;
-  fewer = fewer;
-  owner = λ q e. absurd (cc);
-  whole = refl;
-  regions = regions_quiet bases L c run x refl refl;
-})
+ended_keeps bases L c t run runs next =
+    RunsOn-logged bases L c run x (remove c.system.table t) (locks_without c.system.locks t) c.regions
+    (fits_own bases L c run t x (remove c.system.table t) (locks_without c.system.locks t) c.regions refl refl (λ u. refl) was
+    (rule_of bases L c run x refl runs)
+    small
+    (TableRun-one s L x c.system.table t None _ run.table (ended c.system.table t) (λ u. refl) (ended_row s t (txn_state s t L) (get c.system.table t) (run.table t) (next_at s L t x next)))
+    (λ u l. keeps u l (t == u) refl)
+    fewer
+    (λ q e. absurd (cc)) refl (regions_quiet bases L c run x refl refl))
   where
     s : Sizes
     s = c.system.sizes
 
-    now : Rules
-    now = run.counts.now
-
     x : Record
     x = Ended t
 
+    was : t < run.counts.now.next
+    was = given bases L c run t x next (rw (eqb-self t) refl)
+
     small : t < 2 ^ 64
-    small = omega (arith, given bases L c run t x next (rw (eqb-self t) refl), next_is_small s L now run.log.legal run.counts.rules)
+    small = omega (arith, was, next_is_small s L run.counts.now run.log.legal run.counts.rules)
 
     locks : (u l : ℕ) → get (locks_without c.system.locks t) (u, l) ≡ cond (t == u) None (get c.system.locks (u, l))
     locks u l = locks_without_at c.system.locks t u l

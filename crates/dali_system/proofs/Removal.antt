@@ -2,14 +2,11 @@
 use Rattle.std.proofs.Common.{◌≡◌, ℕ, zero, suc, ◌<◌, Bool, true, false, List, [], ◌∷◌, ◌++◌, Option, Some, None, refl, subst, ◌∙◌, arith}
 use Rattle.std.specs.Prelude.{not, ◌&&◌}
 use Rattle.dali_lists.proofs.Options.{some_same}
-use Rattle.dali_record.specs.declared.operations.Op.TheVariants.{KillEntry, FreeCell, FreeEntry}
 use Rattle.dali_record.specs.declared.records.Call.TheVariants.{Delete}
 use Rattle.dali_record.specs.declared.records.Answer.TheVariants.{Ok as AnswerOk}
 use Rattle.dali_record.specs.declared.records.Record.TheVariants.{Forward, Done, Commit, Ended, Solo, AuditBegin, AuditClean}
-use Rattle.dali_record.specs.Spelling.{IsBlock}
 use Rattle.dali_record.specs.Damage.{has}
 use Rattle.dali_record.specs.Legal.{Rules, rules_state}
-use Rattle.dali_record.proofs.Made.{made_is_block}
 use Rattle.dali_index.specs.Entries.{entries}
 use Rattle.dali_region.specs.declared.Side.TheVariants.{A}
 use Rattle.dali_region.specs.State.{RegionState, touched, checked}
@@ -22,10 +19,10 @@ use Rattle.dali_system.specs.Regions.{Clean}
 use Rattle.dali_system.specs.Audits.{IsAuditing}
 use Rattle.dali_system.specs.Passes.{audits_with, has_passed, has_found, IsVerdict}
 use Rattle.dali_system.specs.Courses.{Step, Operates, Frees, Answers, Commits, Ends, AuditBegins, AuditEnds, OnRegion, Passes, Checkpoints, Moment, IsStepAt, IsCourse, CoreTraced}
-use Rattle.dali_system.specs.Worked.{small, first_log, start, opening, touching, index_words, heap_words, stored, look, kill_cell, kill_entry, free_cell, free_entry, kills, removal, Removal, first_files}
+use Rattle.dali_system.specs.Worked.{small, first_log, start, opening, touching, stored, look, kill_cell, kill_entry, free_cell, free_entry, kills, removal, Removal, first_files}
 use Rattle.dali_system.proofs.Courses.{course_keeps}
 use Rattle.dali_system.proofs.Touching.{join, with_one, passing, after_all, touches, quiet_trace}
-use Rattle.dali_system.proofs.Worked.{are_index, are_heap, stored_regions, start_runs, exclusive_covers, logging, at_look, at_kill_cell, cell_killed, live_killed, logs_by, alive_by, kills_course}
+use Rattle.dali_system.proofs.Worked.{stored_regions, start_runs, exclusive_covers, logging, at_look, at_kill_cell, cell_killed, live_killed, logs_by, logs_block, alive_by, is_kill_entry, is_free_cell, is_free_entry, kills_course}
 use Rattle.dali_system.proofs.RowStates.{op_state, commit_state}
 
 -- ---- the entry is killed
@@ -35,26 +32,13 @@ at_kill_entry = after_all (opening 1 kill_entry ((1, 2) ∷ [])) (touched at_loo
 abbrev entry_killed : Moment
 entry_killed = logging cell_killed (Forward 1 kill_entry) (op_logged cell_killed.core.system 1 kill_entry) 0 at_kill_entry
 
-is_kill_entry : IsBlock kill_entry
-unfolding kill_entry
-is_kill_entry = made_is_block (KillEntry 0) 5 0 (index_words 1) refl (omega arith) (omega arith) (are_index 1 (omega arith))
-
 kills_entry : IsStepAt (with_one cell_killed 0 at_kill_entry) (Operates 1 kill_entry) entry_killed
 unfolding look kill_cell kill_entry entries
 kills_entry = (
   (
     at_kill_entry,
     record { runs = refl; room = omega arith },
-    record {
-      runs = refl;
-      spelled = (omega arith, is_kill_entry, refl);
-      next = refl;
-      by = logs_by _ Live (Forward 1 kill_entry) live_killed refl;
-      kind = refl;
-      locked = exclusive_covers true;
-      at = refl;
-      is_open = record { hold = refl; reads = refl; sound = λ h. refl; stands = λ h. refl };
-    },
+    logs_block (with_one cell_killed 0 at_kill_entry) (Forward 1 kill_entry) kill_entry at_kill_entry Live live_killed refl refl (omega arith, is_kill_entry, refl) refl refl (exclusive_covers true) refl (record { hold = refl; reads = refl; sound = λ h. refl; stands = λ h. refl }),
     (refl, refl),
   ),
   refl,
@@ -98,29 +82,12 @@ at_free_entry = after_all (opening 1 free_entry ((1, 0) ∷ [])) (touched at_kil
 abbrev entry_freed : Moment
 entry_freed = logging cell_freed (Solo 3 1 free_entry) (solo_logged cell_freed.core.system 1 free_entry) 0 at_free_entry
 
-is_free_cell : IsBlock free_cell
-unfolding free_cell
-is_free_cell = made_is_block (FreeCell 1) 5 1 (heap_words 2) refl (omega arith) (omega arith) (are_heap 2 (omega arith))
-
-is_free_entry : IsBlock free_entry
-unfolding free_entry
-is_free_entry = made_is_block (FreeEntry 0) 5 0 (index_words 2) refl (omega arith) (omega arith) (are_index 2 (omega arith))
-
 frees_cell : IsStepAt (with_one committed 1 at_free_cell) (Frees 1 free_cell) cell_freed
 unfolding look kill_cell kill_entry free_cell entries
 frees_cell = (
   (
     at_free_cell,
-    record {
-      runs = refl;
-      spelled = (omega arith, omega arith, is_free_cell, refl);
-      next = refl;
-      by = logs_by _ Committed (Solo 2 1 free_cell) row_committed refl;
-      kind = refl;
-      locked = exclusive_covers true;
-      at = refl;
-      is_open = record { hold = refl; reads = refl; sound = λ h. refl; stands = λ h. refl };
-    },
+    logs_block (with_one committed 1 at_free_cell) (Solo 2 1 free_cell) free_cell at_free_cell Committed row_committed refl refl (omega arith, omega arith, is_free_cell, refl) refl refl (exclusive_covers true) refl (record { hold = refl; reads = refl; sound = λ h. refl; stands = λ h. refl }),
     (refl, refl),
   ),
   refl,
@@ -131,16 +98,7 @@ unfolding look kill_cell kill_entry free_cell free_entry entries
 frees_entry = (
   (
     at_free_entry,
-    record {
-      runs = refl;
-      spelled = (omega arith, omega arith, is_free_entry, refl);
-      next = refl;
-      by = logs_by _ Committed (Solo 3 1 free_entry) row_committed refl;
-      kind = refl;
-      locked = exclusive_covers true;
-      at = refl;
-      is_open = record { hold = refl; reads = refl; sound = λ h. refl; stands = λ h. refl };
-    },
+    logs_block (with_one cell_freed 0 at_free_entry) (Solo 3 1 free_entry) free_entry at_free_entry Committed row_committed refl refl (omega arith, omega arith, is_free_entry, refl) refl refl (exclusive_covers true) refl (record { hold = refl; reads = refl; sound = λ h. refl; stands = λ h. refl }),
     (refl, refl),
   ),
   refl,

@@ -8,8 +8,8 @@ use Rattle.std.proofs.lemmas.Bool.{eqb-true}
 use Rattle.dali_record.specs.declared.operations.Block.{Block}
 use Rattle.dali_record.specs.declared.operations.Pending.{Pending}
 use Rattle.dali_record.specs.declared.operations.Undo.{Undo}
-use Rattle.dali_record.specs.Log.{undo_added, drop_last}
-use Rattle.dali_att.specs.Table.{Table, with_row, with_undo, without_last}
+use Rattle.dali_record.specs.Log.{undo_added, drop_last, last_of}
+use Rattle.dali_att.specs.Table.{Table, with_row, with_undo, without_last, last_of as table_last}
 use Rattle.dali_att.proofs.Changes.{get-added, get-ended, get-with_row}
 use Rattle.dali_system.specs.State.{TxnRow}
 use Rattle.dali_system.specs.Steps.{undo_kept}
@@ -51,6 +51,11 @@ pub but_last : (us : List Pending) → take (length us - 1) us ≡ drop_last us
 but_last [] = refl
 but_last (p ∷ []) = refl
 but_last (p ∷ q ∷ us) = let e : length (p ∷ q ∷ us) - 1 ≡ suc (length (q ∷ us) - 1) = omega arith in rw e (ap (λ vs. p ∷ vs) (but_last (q ∷ us)))
+
+pub last_same : (us : List Pending) → table_last us ≡ last_of us
+last_same [] = refl
+last_same (u ∷ []) = refl
+last_same (u ∷ v ∷ us) = let e : length (u ∷ v ∷ us) - 1 ≡ suc (length (v ∷ us) - 1) = omega arith in rw e (last_same (v ∷ us))
 
 without_one : (o : Option TxnRow) → with_undos drop_last o ≡ option_map without_last o
 without_one None = refl

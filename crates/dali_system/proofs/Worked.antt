@@ -1,15 +1,15 @@
 -- The worked runs' beginnings: a core over a base that stores key 5, in which transaction 1 has killed the cell of that key.
-use Rattle.std.proofs.Common.{◌≡◌, ℕ, zero, suc, ◌<◌, ◌^◌, Bool, true, false, List, [], ◌∷◌, ◌++◌, length, Option, Some, None, refl, ap, sym, subst, ◌∙◌, arith}
-use Rattle.std.specs.Prelude.{sum_by, is_some}
+use Rattle.std.proofs.Common.{◌≡◌, ℕ, ◌<◌, ◌^◌, Bool, true, false, List, [], ◌∷◌, ◌++◌, length, Option, Some, None, refl, ap, sym, ◌∙◌, arith}
+use Rattle.std.specs.Prelude.{sum_by, is_some, slice_get}
 use Rattle.std.specs.FinMap.{get, empty}
-use Rattle.dali_lists.proofs.Options.{some_same}
-use Rattle.dali_record.specs.declared.operations.Op.TheVariants.{Look, KillCell}
+use Rattle.dali_words.specs.Words.{AreWords, AllAreWords}
+use Rattle.dali_record.specs.declared.operations.Op.TheVariants.{Look, KillEntry, KillCell, FreeCell, FreeEntry}
+use Rattle.dali_record.specs.declared.operations.Block.{Block}
 use Rattle.dali_record.specs.declared.records.Record.{Record}
 use Rattle.dali_record.specs.declared.records.Record.TheVariants.{Format, Begin, Forward}
-use Rattle.dali_record.specs.Blocks.{AreWords}
-use Rattle.dali_record.specs.Spelling.{IsBlock}
+use Rattle.dali_record.specs.Spelling.{IsBlock, CanBeSpelled}
 use Rattle.dali_record.specs.Files.{Files, batch_length}
-use Rattle.dali_record.specs.Legal.{passes, rules_start}
+use Rattle.dali_record.specs.Legal.{on_kind, passes, rules_start}
 use Rattle.dali_record.proofs.Made.{made_is_block}
 use Rattle.dali_index.specs.Entries.{entries}
 use Rattle.dali_region.specs.State.{RegionState, loaded}
@@ -21,12 +21,12 @@ use Rattle.dali_att.specs.Table.{fresh_row}
 use Rattle.dali_att.specs.declared.state.State.{State}
 use Rattle.dali_att.specs.declared.state.State.TheVariants.{Live}
 use Rattle.dali_system.specs.State.{TxnRow, SystemState, state_of}
-use Rattle.dali_system.specs.Regions.{is_alive}
-use Rattle.dali_system.specs.Run.{log_in, VaultRun, covers, AllAreWords, only, no_image}
+use Rattle.dali_system.specs.Regions.{IsOpen, is_alive}
+use Rattle.dali_system.specs.Run.{log_in, VaultRun, covers, holds, only, no_image}
 use Rattle.dali_system.specs.Steps.{begun, op_logged, granted}
-use Rattle.dali_system.specs.Keeps.{with_system, with_touched, may_log, may_log_in}
+use Rattle.dali_system.specs.Keeps.{with_system, with_touched, may_log, may_log_in, IsNext, MayLogBlock}
 use Rattle.dali_system.specs.Courses.{Begins, Operates, Locks as Asks, Moment, IsStepAt, IsCourse, RunsAt}
-use Rattle.dali_system.specs.Worked.{small, first_log, first_vault, start, opening, touching, index_words, heap_words, stored, look, kill_cell, kills, first_files}
+use Rattle.dali_system.specs.Worked.{small, first_log, first_vault, start, opening, touching, index_words, heap_words, stored, look, kill_cell, kill_entry, free_cell, free_entry, kills, first_files}
 use Rattle.dali_system.proofs.Loads.{no_lock, format_rests}
 use Rattle.dali_system.proofs.Tables.{added}
 use Rattle.dali_system.proofs.RowStates.{begun_state, op_state}
@@ -59,9 +59,7 @@ pub are_heap : (state : ℕ) → state < 2 ^ 64 → AreWords (heap_words state)
 are_heap state h = (refl, omega (arith, h))
 
 pub stored_regions : AllAreWords stored
-stored_regions zero ws e = subst AreWords (some_same e) (are_index 1 (omega arith))
-stored_regions (suc zero) ws e = subst AreWords (some_same e) (are_heap 1 (omega arith))
-stored_regions (suc (suc r)) ws e = absurd (cc)
+stored_regions = (are_index 1 (omega arith), (are_heap 1 (omega arith), tt))
 
 -- ---- a lock
 pub strongest : (o : Option Mode) (d : Bool) → covers (Some (stronger_mode o Exclusive)) d ≡ true
@@ -108,6 +106,14 @@ live_killed = op_state looked.core.system 1 kill_cell 1 ∙ live_looked
 pub logs_by : (o : Option State) (st : State) (x : Record) → o ≡ Some st → may_log st x ≡ true → may_log_in o x ≡ true
 logs_by o st x e may = rw e may
 
+-- transaction 1 may log a block that its region has open
+pub logs_block :
+    (m : Moment) (x : Record) (b : Block) (g : RegionState) (st : State) → state_of m.core.system 1 ≡ Some st → may_log st x ≡ true
+    → m.core.system.stop ≡ None → CanBeSpelled x → IsNext m.core.system.sizes m.log 1 x → on_kind m.core.system.sizes b.region b.op ≡ true
+    → holds m.core.system 1 b ≡ true → slice_get m.core.regions b.region ≡ Some g → IsOpen g 1 b
+    → MayLogBlock m.log m.core x 1 b g
+logs_block m x b g st is may runs spelled next kind held at is_open = record { runs = runs; spelled = spelled; next = next; by = logs_by (state_of m.core.system 1) st x is may; kind = kind; locked = held; at = at; is_open = is_open }
+
 pub alive_by : (o : Option State) (st : State) → o ≡ Some st → is_alive (Some st) ≡ true → is_alive o ≡ true
 alive_by o st e may = rw e may
 
@@ -118,13 +124,25 @@ begins = ((record { runs = refl; room = omega arith }, (refl, refl)), refl)
 asks : IsStepAt begun_1 (Asks 1 5 Exclusive) locked
 asks = ((ap (λ (row : Option TxnRow). is_some row) (added (start stored).core.system.table 1 fresh_row 1), (λ u n d e. absurd (no_lock u 5 n e)), (refl, refl)), refl)
 
-is_look : IsBlock look
+pub is_look : IsBlock look
 unfolding look
 is_look = made_is_block Look 5 0 (index_words 1) tt (omega arith) (omega arith) (are_index 1 (omega arith))
 
-is_kill_cell : IsBlock kill_cell
+pub is_kill_cell : IsBlock kill_cell
 unfolding kill_cell
 is_kill_cell = made_is_block (KillCell 1) 5 1 (heap_words 1) refl (omega arith) (omega arith) (are_heap 1 (omega arith))
+
+pub is_kill_entry : IsBlock kill_entry
+unfolding kill_entry
+is_kill_entry = made_is_block (KillEntry 0) 5 0 (index_words 1) refl (omega arith) (omega arith) (are_index 1 (omega arith))
+
+pub is_free_cell : IsBlock free_cell
+unfolding free_cell
+is_free_cell = made_is_block (FreeCell 1) 5 1 (heap_words 2) refl (omega arith) (omega arith) (are_heap 2 (omega arith))
+
+pub is_free_entry : IsBlock free_entry
+unfolding free_entry
+is_free_entry = made_is_block (FreeEntry 0) 5 0 (index_words 2) refl (omega arith) (omega arith) (are_index 2 (omega arith))
 
 looks : IsStepAt (with_one locked 0 at_look) (Operates 1 look) looked
 unfolding look entries
@@ -132,16 +150,7 @@ looks = (
   (
     at_look,
     record { runs = refl; room = omega arith },
-    record {
-      runs = refl;
-      spelled = (omega arith, is_look, refl);
-      next = refl;
-      by = logs_by _ Live (Forward 1 look) live_locked refl;
-      kind = refl;
-      locked = exclusive_covers false;
-      at = refl;
-      is_open = record { hold = refl; reads = refl; sound = λ h. refl; stands = λ h. refl };
-    },
+    logs_block (with_one locked 0 at_look) (Forward 1 look) look at_look Live live_locked refl refl (omega arith, is_look, refl) refl refl (exclusive_covers false) refl (record { hold = refl; reads = refl; sound = λ h. refl; stands = λ h. refl }),
     (refl, refl),
   ),
   refl,
@@ -153,16 +162,7 @@ kills_cell = (
   (
     at_kill_cell,
     record { runs = refl; room = omega arith },
-    record {
-      runs = refl;
-      spelled = (omega arith, is_kill_cell, refl);
-      next = refl;
-      by = logs_by _ Live (Forward 1 kill_cell) live_looked refl;
-      kind = refl;
-      locked = exclusive_covers true;
-      at = refl;
-      is_open = record { hold = refl; reads = refl; sound = λ h. refl; stands = λ h. refl };
-    },
+    logs_block (with_one looked 1 at_kill_cell) (Forward 1 kill_cell) kill_cell at_kill_cell Live live_looked refl refl (omega arith, is_kill_cell, refl) refl refl (exclusive_covers true) refl (record { hold = refl; reads = refl; sound = λ h. refl; stands = λ h. refl }),
     (refl, refl),
   ),
   refl,

@@ -17,6 +17,7 @@
 --     BareCourseKeeps, BareLoadRuns    so it is where nothing is said of crashes
 use Rattle.std.specs.Prelude.{◌≡◌, ◌==◌, ◌↔◌, ℕ, ◌+◌, ◌<◌, ◌≤◌, Bool, true, false, not, List, [], ◌∷◌, ◌++◌, Option, Some, None, IsSome, length, slice_get, ◌⊎◌}
 use Rattle.std.specs.Option.{option_map_or}
+use Rattle.dali_words.specs.Words.{AllAreWords}
 use Rattle.dali_geometry.specs.Sizes.{Sizes}
 use Rattle.dali_geometry.specs.Places.{regions}
 use Rattle.dali_record.specs.declared.operations.Block.{Block}
@@ -34,7 +35,7 @@ use Rattle.dali_locks.specs.declared.mode.LockAnswer.TheVariants.{Granted, Busy}
 use Rattle.dali_locks.specs.Locks.{IsAnswer}
 use Rattle.dali_att.specs.declared.state.State.TheVariants.{Dead, Cleaning}
 use Rattle.dali_system.specs.State.{CoreState, row_of, stable, log_after, VaultState}
-use Rattle.dali_system.specs.Run.{AllAreWords, Bases, HasRisen, IsRun, base_at, VaultRun, only, no_image}
+use Rattle.dali_system.specs.Run.{Bases, HasRisen, IsRun, base_at, VaultRun, only, no_image}
 use Rattle.dali_system.specs.Steps.{begun, op_logged, back_logged, solo_logged, done_logged, commit_logged, ended_logged, audit_begun, audit_ended, audit_record, granted, refused, in_state, store_stopped, in_checkpoint, taken}
 use Rattle.dali_system.specs.Regions.{RegionStep, region_after, MayChange, IsAlone}
 use Rattle.dali_system.specs.Keeps.{with_system, with_region, with_touched, HasRoom, MayAdd, MayLogBlock, IsFree, MayDie, died, MayClaim, MayGiveBack, MayRecover}

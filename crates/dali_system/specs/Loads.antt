@@ -6,6 +6,7 @@
 --     FormatRests, EmptyRests      logs that are at rest
 use Rattle.std.specs.Prelude.{◌≡◌, ℕ, ◌≤◌, false, List, [], ◌∷◌, Some, None, map, length, ◌==◌}
 use Rattle.std.specs.FinMap.{empty}
+use Rattle.dali_words.specs.Words.{AllAreWords}
 use Rattle.dali_geometry.specs.Sizes.{Sizes}
 use Rattle.dali_geometry.specs.Places.{regions}
 use Rattle.dali_record.specs.declared.records.Record.{Record}
@@ -15,7 +16,7 @@ use Rattle.dali_record.specs.Epochs.{last_epoch}
 use Rattle.dali_record.specs.Legal.{Rules, passes, rules_start, rules_state, txn_state, Unbegun}
 use Rattle.dali_region.specs.State.{loaded}
 use Rattle.dali_system.specs.State.{SystemState, VaultState, CoreState}
-use Rattle.dali_system.specs.Run.{LogRun, AllAreWords, Bases, base_at, RunsOn, is_running}
+use Rattle.dali_system.specs.Run.{LogRun, Bases, base_at, RunsOn, is_running}
 
 abbrev pub new_system : Sizes → ℕ → ℕ → ℕ → ℕ → SystemState
 new_system s first next end limit = record { sizes = s; first = first; since = []; taken = 0; table = empty; locks = empty; refusals = []; records = first; end = end; next = next; limit = limit; stop = None; checking = false }

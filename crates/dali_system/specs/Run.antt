@@ -17,7 +17,7 @@ use Rattle.dali_record.specs.declared.operations.Block.{Block}
 use Rattle.dali_record.specs.declared.operations.Pending.{Pending}
 use Rattle.dali_record.specs.declared.records.Record.{Record}
 use Rattle.dali_record.specs.declared.records.Record.TheVariants.{Format, AuditFail, Ended}
-use Rattle.dali_record.specs.Blocks.{AreWords, changes_item}
+use Rattle.dali_record.specs.Blocks.{changes_item}
 use Rattle.dali_record.specs.Log.{Touch, touch_of, touch_at}
 use Rattle.dali_record.specs.Epochs.{Epoch, last_epoch, next_number, clean_place}
 use Rattle.dali_record.specs.Damage.{any_touch}
@@ -194,10 +194,6 @@ pub record VaultRun (leave : Files → Type 0) (L : List Record) (n : ℕ) (v : 
   pub rose : v.stopped ≡ true → HasRisen v.faults_then v.faults
 
 -- ---- all
--- each region of the base is 64 words
-abbrev pub AllAreWords : List (List ℕ) → Type 0
-AllAreWords base = (r : ℕ) (ws : List ℕ) → slice_get base r ≡ Some ws → AreWords ws
-
 -- the base of the epoch whose first record has this number
 abbrev pub Bases : Type 0
 Bases = ℕ → List (List ℕ)

@@ -30,7 +30,7 @@ use Rattle.dali_taint.specs.Tables.{word_set, has_item, has_number}
 use Rattle.dali_taint.specs.Following.{scanned, is_committed, IsOrderly, FollowsScan, Follows, Begins}
 use Rattle.dali_taint.specs.declared.taint.Taint.{Taint}
 
-abbrev txns : List Row → List ℕ
+abbrev pub txns : List Row → List ℕ
 txns rows = map (λ w. w.txn) rows
 
 -- ---- rows
@@ -45,7 +45,7 @@ absent x xs sorted = false_from_ne_true (has xs x) there
         let below : x < get_or xs w.0 0 = below_from_sorted (x ∷ xs) 0 (suc w.0) 0 sorted (omega arith) (omega (arith, in')) in
         absurd (omega (arith, below, same))
 
-committed_there : (rows : List Row) (t : ℕ) → row_committed rows t ≡ true → has (txns rows) t ≡ true
+pub committed_there : (rows : List Row) (t : ℕ) → row_committed rows t ≡ true → has (txns rows) t ≡ true
 committed_there [] t h = absurd (cc)
 committed_there (w ∷ ws) t h = ⊎_elim (λ e. or_left (w.txn == t) (has (txns ws) t) (and_parts (w.txn == t) w.is_committed e).0) (λ e. or_right (w.txn == t) (has (txns ws) t) (committed_there ws t e)) (or_cases ((w.txn == t) && w.is_committed) (row_committed ws t) h)
 
@@ -66,7 +66,7 @@ running_row (w ∷ ws) t sorted h = by_test (λ g. running_row ws t (sorted_tail
             absurd (cc)
     by_test ih false e = ih (subst (λ z. is_running (cond z (cond w.is_committed Waiting (Running w.undos)) (status_in ws t)) ≡ true) e h)
 
-no_row : (rows : List Row) (t : ℕ) → has (txns rows) t ≡ false → row_undos rows t ≡ []
+pub no_row : (rows : List Row) (t : ℕ) → has (txns rows) t ≡ false → row_undos rows t ≡ []
 no_row [] t h = refl
 no_row (w ∷ ws) t h = let p = or_parts (w.txn == t) (has (txns ws) t) h in rw p.0 (no_row ws t p.1)
 

@@ -1,7 +1,7 @@
 -- One record more, on the scan and on its tables.
-use Rattle.std.proofs.Common.{◌≡◌, ◌⊎◌, ℕ, ◌+◌, ◌^◌, ◌≤◌, ◌<◌, Bool, true, false, cond, List, [], ◌∷◌, ◌++◌, Some, None, refl, ap, sym, subst, ◌∙◌, inl, inr, arith, append_assoc}
+use Rattle.std.proofs.Common.{◌≡◌, ◌⊎◌, ℕ, ◌+◌, ◌^◌, ◌≤◌, ◌<◌, Bool, true, false, cond, List, [], ◌∷◌, ◌++◌, Some, None, refl, ap, sym, subst, ◌∙◌, inl, inr, append_assoc}
 use Rattle.std.specs.Prelude.{◌&&◌, ◌||◌, ◌==◌, nat_le, nat_lt, map}
-use Rattle.std.proofs.lemmas.Bool.{and_parts, ltb-true, leb-true, eqb-true}
+use Rattle.std.proofs.lemmas.Bool.{and_parts, leb-true, eqb-true}
 use Rattle.std.proofs.lemmas.List.Sums.{fold_push}
 use Rattle.std.proofs.lemmas.List.Elements.{filter_map-append}
 use Rattle.std.proofs.lemmas.Option.{same_Some as some_same}
@@ -9,10 +9,8 @@ use mathlib.Core.Bool.{or-false}
 use Rattle.dali_record.proofs.Stages.{has_committed_push}
 use Rattle.dali_history.proofs.Members.{has_append}
 use Rattle.dali_geometry.specs.Sizes.{Sizes}
-use Rattle.dali_geometry.specs.Places.{regions, is_index, is_heap}
+use Rattle.dali_geometry.specs.Places.{regions}
 use Rattle.dali_record.specs.declared.operations.Block.{Block}
-use Rattle.dali_record.specs.declared.operations.Op.{Op}
-use Rattle.dali_record.specs.declared.operations.Op.TheVariants.{Look, Add, KillEntry, Put, Read, Change, KillCell, FreeCell, ReviveCell, Restore, FreeEntry, ReviveEntry}
 use Rattle.dali_record.specs.declared.operations.Pending.{Pending}
 use Rattle.dali_record.specs.declared.records.Record.{Record}
 use Rattle.dali_record.specs.declared.records.Record.TheVariants.{Format, Begin, Forward, Commit, Ended, Solo, Restarted, Back}
@@ -20,6 +18,7 @@ use Rattle.dali_record.specs.Log.{Touch, touch_of, txn_of, undo_step, begun, com
 use Rattle.dali_record.specs.Epochs.{separates}
 use Rattle.dali_record.specs.Damage.{Damage, has}
 use Rattle.dali_record.specs.Legal.{on_kind}
+use Rattle.dali_record.proofs.EpochRules.{kind_in}
 use Rattle.dali_resume.specs.Resumed.{scan, scan_step, scan_start, begun_by, committed_by, row_committed}
 use Rattle.dali_resume.specs.Tests.{Known, Status, Idle, Running, Waiting, allows, may_take_back, is_running, is_waiting, known_next, status_next, next_behind, draws_number}
 use Rattle.dali_taint.specs.Tables.{is_block_of, is_commit_of, is_end_of}
@@ -38,29 +37,6 @@ scanned_next d k r e =
     ∙ (ap (scan d k.table) (seen_more k r e) ∙ fold_push (scan_step d) (scan_start d.first k.table) k.seen r)
 
 -- ---- a block
-kind_in : (s : Sizes) (r : ℕ) (op : Op) → on_kind s r op ≡ true → r < regions s
-kind_in s r op h = by_kind op h
-  where
-    index : is_index s r ≡ true → r < regions s
-    index e = let a : r < s.index = ltb-true r s.index e in omega (arith, a)
-
-    heap : is_heap s r ≡ true → r < regions s
-    heap e = ltb-true r (regions s) (and_parts (nat_le s.index r) (nat_lt r (regions s)) e).1
-
-    by_kind : (o : Op) → on_kind s r o ≡ true → r < regions s
-    by_kind Look e = index e
-    by_kind (Add p) e = index e
-    by_kind (KillEntry i) e = index e
-    by_kind (FreeEntry i) e = index e
-    by_kind (ReviveEntry i) e = index e
-    by_kind (Put v) e = heap e
-    by_kind (Read i) e = heap e
-    by_kind (Change i v) e = heap e
-    by_kind (KillCell i) e = heap e
-    by_kind (FreeCell i) e = heap e
-    by_kind (ReviveCell i) e = heap e
-    by_kind (Restore i n vs) e = heap e
-
 -- whose block may follow: of a transaction at work, or of a new number
 pub record MayTouch (s : Sizes) (k : Known) (r : Record) (b : Touch) : Type 0 where
   pub inside : b.block.region < regions s

@@ -4,10 +4,9 @@ ghost use Rattle.std.specs.Int.Bits.{bit_or};
 ghost use Rattle.std.specs.HashSet.{spare};
 ghost use Rattle.dali_record.specs.Blocks.{changes_item};
 ghost use Rattle.dali_record.specs.Damage.{has};
-ghost use Rattle.dali_record.specs.Operations.{changes};
 ghost use Rattle.dali_taint.specs.Tables.{word_set, has_item};
 
-use dali_record::{Block, Outcome, Pending};
+use dali_record::{Block, Pending, changes};
 use std::alloc::AllocError;
 use std::collections::HashSet;
 
@@ -46,20 +45,6 @@ pub fn mark_undone(items: &mut HashSet<u64>, undos: &[Pending])
 {
     for pending in undos {
         mark_item(items, pending.key);
-    }
-}
-
-// Whether a block with this outcome changes its item.
-fn changes(outcome: &Outcome) -> bool
-    ensures { result ≡ changes outcome.now }
-{
-    match outcome {
-        Outcome::Added { .. } => true,
-        Outcome::Killed => true,
-        Outcome::Put { .. } => true,
-        Outcome::Changed => true,
-        Outcome::Undone => true,
-        _ => false,
     }
 }
 

@@ -2,8 +2,9 @@
 use Rattle.std.proofs.Common.{◌≡◌, ◌⊎◌, inl, inr, ⊎_elim, ℕ, ◌+◌, ◌<◌, ◌≤◌, List, [], ◌∷◌, ◌++◌, length, get_or, take, drop, refl, sym, ◌∙◌, ap, subst, arith, append_assoc, length-append, Option, Some, None, IfSome}
 use Rattle.std.proofs.lemmas.Bool.{cases_eq, cases_lt}
 use Rattle.std.proofs.lemmas.List.{get_or-take, get_or-drop, get_or_at, length-take-le, take-append-le, take-take, drop_at}
-use Rattle.dali_store.specs.Store.{Files, Holds, HoldsIn, Torn, TornIn, TornTold, Follows}
+use Rattle.dali_store.specs.Store.{Files, Holds, HoldsIn, Torn, TornIn, TornTold, Follows, Elapses, LeavesOnly}
 use Rattle.dali_store.specs.declared.store.FileName.TheVariants.{Anchor}
+use Rattle.dali_store.proofs.Moments.{started, goes_on}
 use Rattle.dali_batch.specs.Batch.{IsOpenAt, IsClosedAt}
 use Rattle.dali_batch.proofs.Bytes.{take_below, closed_same}
 use Rattle.dali_traces.specs.Disks.{IsAnchor}
@@ -125,6 +126,30 @@ module _ (n : ℕ) (may0 : Files → Type 0) (anchored : (c : Files) → may0 c 
               others = (before.0, before.1, λ g other. from.2.same g other ∙ before.2.same g other);
               anchor = subst (λ (l : List ℕ). IsAnchor l (n + 1)) (sym (keeps c left)) (moved_on n gs.anchor hs.anchor cut2.torn is next (gate_is n gs.anchor hs.anchor (omega (arith, is.closed.0)) written2.0));
             }
+
+-- ---- all moments of the calls
+module _ {D : Type 0} (moment : D → ℕ) (left_since : D → ℕ → Files → Type 0) (n : ℕ) (may0 may1 : Files → Type 0) (anchored : (c : Files) → may0 c → IsAnchor c.anchor n) (s0 s1 : D)
+    (only : (c : Files) → left_since s0 (moment s0) c → may0 c) (first : Follows (TornIn Anchor (n + 1) 1) may0 may1) (time1 : Elapses (moment s0) (moment s1) (left_since s0) (left_since s1) may1) where
+  -- the closed gate is written
+  pub staged_run : LeavesOnly moment left_since s0 s1 (MayHaveMoved may0 n)
+  staged_run =
+      let start = started moment left_since s0 (MayHaveMoved may0 n) (λ c left. at_start n may0 anchored c (only c left)) in
+      goes_on moment left_since s0 s0 s1 (MayHaveMoved may0 n) may1 start time1 (stage_crash n may0 anchored may1 first)
+
+  module _ (s2 : D) (may2 : Files → Type 0) (kept : (c : Files) → may2 c → may1 c) (time2 : Elapses (moment s1) (moment s2) (left_since s1) (left_since s2) may2) where
+    -- the anchor is synced
+    pub synced_run : LeavesOnly moment left_since s0 s2 (MayHaveMoved may0 n)
+    synced_run = goes_on moment left_since s0 s1 s2 (MayHaveMoved may0 n) may2 staged_run time2 (λ c left. stage_crash n may0 anchored may1 first c (kept c left))
+
+    -- the gate is opened
+    pub opened_run : (s3 : D) (may3 : Files → Type 0) → Elapses (moment s2) (moment s3) (left_since s2) (left_since s3) may3 → ((c : Files) → may3 c → MayHaveMoved may0 n c) → LeavesOnly moment left_since s0 s3 (MayHaveMoved may0 n)
+    opened_run s3 may3 time3 gate = goes_on moment left_since s0 s2 s3 (MayHaveMoved may0 n) may3 synced_run time3 gate
+
+    -- the anchor is synced again
+    pub whole_run : (s3 s4 : D) (may3 may4 : Files → Type 0) → Elapses (moment s2) (moment s3) (left_since s2) (left_since s3) may3 → ((c : Files) → may4 c → may3 c) → Elapses (moment s3) (moment s4) (left_since s3) (left_since s4) may4
+        → ((c : Files) → may3 c → MayHaveMoved may0 n c) → LeavesOnly moment left_since s0 s4 (MayHaveMoved may0 n)
+    whole_run s3 s4 may3 may4 time3 kept2 time4 gate =
+        goes_on moment left_since s0 s3 s4 (MayHaveMoved may0 n) may4 (opened_run s3 may3 time3 gate) time4 (λ c left. gate c (kept2 c left))
 
 -- the place of the next gate is within the file, or at its end
 pub inside_now : (n : ℕ) (may0 : Files → Type 0) (t : Option Files) → IfSome t (λ _. (c : Files) → may0 c → IsAnchor c.anchor n) → IfSome t (λ fs. may0 fs) → IfSome t (λ fs. n + 1 ≤ length fs.anchor)

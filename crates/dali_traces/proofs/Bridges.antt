@@ -1,19 +1,17 @@
 -- The bytes that an append leaves spell files that came along the step of a flush.
-use Rattle.std.proofs.Common.{◌≡◌, ◌≢◌, ℕ, ◌%◌, Bool, true, false, cond, zero, suc, ◌+◌, ◌≤◌, List, [], ◌∷◌, ◌++◌, length, take, drop, Some, refl, ap, sym, subst, ◌∙◌, inl, inr, ⊎_elim, arith, Option, IfSome, length-append}
+use Rattle.std.proofs.Common.{◌≡◌, ◌≢◌, ℕ, ◌%◌, Bool, true, false, cond, zero, suc, ◌+◌, ◌≤◌, List, [], ◌∷◌, ◌++◌, length, take, drop, Some, refl, ap, sym, subst, ◌∙◌, inl, inr, ⊎_elim, arith, Option, IfSome}
 use Rattle.std.specs.Prelude.{◌⊎◌, ◌==◌, flat_map, slice_get, sum_by}
 use Rattle.std.specs.List.{AllByRecursion}
 use Rattle.std.proofs.lemmas.Option.{IfSome_then}
 use Rattle.std.proofs.lemmas.List.{append-nil}
 use Rattle.std.proofs.lemmas.Grind.{flat_map-append}
-use Rattle.std.proofs.lemmas.List.Sums.{sum_by-cons}
 use Rattle.std.proofs.lemmas.Bool.{eqb-true, eq-eqb}
 use Rattle.dali_record.specs.declared.records.Record.{Record}
 use Rattle.dali_record.specs.declared.records.Record.TheVariants.{Format, Restarted}
-use Rattle.dali_record.specs.Spelling.{CanBeSpelled, spelling, record_length}
+use Rattle.dali_record.specs.Spelling.{CanBeSpelled, spelling}
 use Rattle.dali_record.specs.Epochs.{Cut, last_epoch}
 use Rattle.dali_record.specs.Legal.{sizes_of}
 use Rattle.dali_record.specs.Files.{Files, batch_length}
-use Rattle.dali_record.proofs.Lengths.{length-spelling}
 use Rattle.dali_record.proofs.Pushes.{cut_push}
 use Rattle.dali_history.specs.Recovered.{recovered}
 use Rattle.dali_region.specs.declared.Side.{Side}
@@ -29,11 +27,11 @@ use Rattle.dali_crash.specs.StoreRuns.{StoreRun}
 use Rattle.dali_crash.proofs.Restarts.{sizes_take, begins_behind}
 use Rattle.dali_crash.proofs.Courses.{format_is_history}
 use Rattle.dali_crash.proofs.Starts.{lawful}
-use Rattle.dali_batch.specs.Batch.{batch, batches}
+use Rattle.dali_batch.specs.Batch.{batches}
 use Rattle.dali_batch.specs.Appending.{bodies_of, next_place, Adds, SomeAdded, AllAdded}
 use Rattle.dali_batch.specs.Log.{body_bytes, AreSpelled, bodies, records_in, HasFormat, LogOf}
 use Rattle.dali_batch.specs.Formatting.{IsFormattedBy}
-use Rattle.dali_batch.proofs.Bytes.{length-batch}
+use Rattle.dali_batch.proofs.Bytes.{batches_length}
 use Rattle.dali_batch.proofs.Rows.{grown, first_log}
 use Rattle.dali_batch.proofs.Unique.{some_bytes, one_log}
 use Rattle.dali_traces.specs.Disks.{IsAnchor, IsImageOf, image_file, image_name, head_of, sizes_in, unchecked, Spells, AllSpell}
@@ -108,16 +106,6 @@ get_in_take (suc m) (x ∷ L) zero r e = e
 get_in_take (suc m) (x ∷ L) (suc i) r e = get_in_take m L i r e
 
 -- ---- the bytes of batches
-pub body_length : (rs : List Record) → AreSpelled rs → length (body_bytes rs) ≡ sum_by record_length rs
-body_length [] all = refl
-body_length (r ∷ rs) all = length-append (spelling r) (body_bytes rs) ∙ (ap (λ n. n + length (body_bytes rs)) (length-spelling r all.0) ∙ (ap (λ n. record_length r + n) (body_length rs all.1) ∙ sym (sum_by-cons record_length r rs)))
-
-pub batches_length : (L : List (List Record)) → AllByRecursion AreSpelled L → length (batches (bodies L)) ≡ sum_by batch_length L
-batches_length [] all = refl
-batches_length (rs ∷ L) all =
-    let one : length (batch (body_bytes rs)) ≡ batch_length rs = omega (arith, length-batch (body_bytes rs), body_length rs all.0) in
-    length-append (batch (body_bytes rs)) (batches (bodies L)) ∙ (ap (λ n. n + length (batches (bodies L))) one ∙ (ap (λ n. batch_length rs + n) (batches_length L all.1) ∙ sym (sum_by-cons batch_length rs L)))
-
 pub ends_at : (bytes : List ℕ) (L : List (List Record)) (e : ℕ) → LogOf bytes L e → e ≡ sum_by batch_length L
 ends_at bytes L e log = log.front.place ∙ batches_length L log.front.each
 

@@ -115,6 +115,13 @@ anchor_tells_inside s D from xs p E t x q F step inside = ⊎_elim (λ e. before
     by_step (TurnFails k) s came = ⊎_elim (λ e. before F e) (λ w. moved s.3.may.runs w) came
     by_step y s came = before F came
 
+-- ---- what a fault of a write leaves
+abbrev copy_failed : Point → ℕ → List ℕ → ℕ → Point
+copy_failed p r ws n = record { log = p.log; core = with_fault p.core n; audits = p.audits; told = told_with p.told (target p) r ws; heads = p.heads; synced = synced_with p.synced (target p) false; begun = p.begun; copies = copies_with p.copies (target p) r None }
+
+abbrev head_failed : Point → Head → ℕ → Point
+head_failed p h n = record { log = p.log; core = with_fault p.core n; audits = p.audits; told = p.told; heads = head_with p.heads (target p) h; synced = synced_with p.synced (target p) false; begun = p.begun; copies = p.copies }
+
 -- ---- inside a step
 pub inside_is_fault : InsideIsFault
 inside_is_fault p q x D F s inside = ⊎_elim (λ e. inl e) (by_step x s) inside
@@ -145,16 +152,7 @@ inside_is_fault p q x D F s inside = ⊎_elim (λ e. inl e) (by_step x s) inside
       faults = n;
       step = CopyFails r [] n;
       is_fault = refl;
-      behind = record {
-        log = p.log;
-        core = with_fault c n;
-        audits = p.audits;
-        told = told_with p.told (target p) r [];
-        heads = p.heads;
-        synced = synced_with p.synced (target p) false;
-        begun = p.begun;
-        copies = copies_with p.copies (target p) r None;
-      };
+      behind = copy_failed p r [] n;
       leads = (st.0, st.1, st.3, record { may = st.2; rose = risen c.vault.faults }, refl);
       came = came;
     })
@@ -163,16 +161,7 @@ inside_is_fault p q x D F s inside = ⊎_elim (λ e. inl e) (by_step x s) inside
       faults = n;
       step = HeadFails h n;
       is_fault = refl;
-      behind = record {
-        log = p.log;
-        core = with_fault c n;
-        audits = p.audits;
-        told = p.told;
-        heads = head_with p.heads (target p) h;
-        synced = synced_with p.synced (target p) false;
-        begun = p.begun;
-        copies = p.copies;
-      };
+      behind = head_failed p h n;
       leads = (record { may = st.0; rose = risen c.vault.faults }, refl);
       came = came;
     })
@@ -246,16 +235,7 @@ each_call_may_fail p q x ws n s calls rose = by_step x s calls
     in_copy y r g is at dirty may = record {
       step = CopyFails r ws n;
       is_fault = is;
-      behind = record {
-        log = p.log;
-        core = with_fault c n;
-        audits = p.audits;
-        told = told_with p.told (target p) r ws;
-        heads = p.heads;
-        synced = synced_with p.synced (target p) false;
-        begun = p.begun;
-        copies = copies_with p.copies (target p) r None;
-      };
+      behind = copy_failed p r ws n;
       leads = (g, at, dirty, record { may = may; rose = rose }, refl);
       vault = refl;
     }
@@ -264,16 +244,7 @@ each_call_may_fail p q x ws n s calls rose = by_step x s calls
     in_head y h is may = record {
       step = HeadFails h n;
       is_fault = is;
-      behind = record {
-        log = p.log;
-        core = with_fault c n;
-        audits = p.audits;
-        told = p.told;
-        heads = head_with p.heads (target p) h;
-        synced = synced_with p.synced (target p) false;
-        begun = p.begun;
-        copies = p.copies;
-      };
+      behind = head_failed p h n;
       leads = (record { may = may; rose = rose }, refl);
       vault = refl;
     }

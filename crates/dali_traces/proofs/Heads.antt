@@ -11,11 +11,11 @@ use Rattle.std.proofs.lemmas.List.Kept.{IsStrictlyIncreasing-filter}
 use Rattle.std.proofs.lemmas.List.Sums.{sum_by_push}
 use Rattle.dali_geometry.specs.Places.{regions}
 use Rattle.dali_geometry.specs.Sizes.{Sizes}
-use Rattle.dali_record.specs.Blocks.{AreWords, pending}
+use Rattle.dali_record.specs.Blocks.{AreWords, AllAreWords, pending}
 use Rattle.dali_record.specs.Damage.{has}
 use Rattle.dali_record.specs.Epochs.{Cut, Epoch, cut, last_epoch, separates}
 use Rattle.dali_record.specs.Files.{Row, draws, next_after, row_of, table_before}
-use Rattle.dali_record.specs.Legal.{IsLegalFor, Rules, has_room, on_kind, room, rules_behind, rules_first, rules_start, rules_state, rules_step, runs}
+use Rattle.dali_record.specs.Legal.{IsLegalFor, Rules, has_room, on_kind, room, rules_start, rules_state, rules_step, runs}
 use Rattle.dali_record.specs.Log.{begin_by, begun, committed, drop_last, ended, undo_added, undo_step, undos_of}
 use Rattle.dali_record.specs.Spelling.{CanBeSpelled, IsBlock, MayBeUndo, ascends, flag_bytes, frees_cell, frees_entry, is_outcome_of, is_within, record_length, restores, revives_cell, revives_entry, undo_bytes, undoes, undoes_add, undoes_change, undoes_kill_cell, undoes_kill_entry, undoes_put}
 use Rattle.dali_record.specs.declared.operations.Block.{Block}
@@ -28,9 +28,9 @@ use Rattle.dali_record.specs.declared.records.Record.{Record}
 use Rattle.dali_record.specs.declared.records.Record.TheVariants.{AuditBegin, AuditClean, AuditFail, Back, Begin, Commit, Done, Ended, Format, Forward, Restarted, Solo}
 use Rattle.dali_record.proofs.Batches.{last_push, number_is_length}
 use Rattle.dali_record.proofs.Ends.{by_push}
-use Rattle.dali_record.proofs.EpochRules.{rules_before}
+use Rattle.dali_record.proofs.EpochRules.{rules_before, ran}
 use Rattle.dali_record.proofs.Lengths.{length-undo}
-use Rattle.dali_record.proofs.Pushes.{cut_push, undos_of_push}
+use Rattle.dali_record.proofs.Pushes.{cut_push, undos_of_push, none_now}
 use Rattle.dali_record.proofs.Survivors.{has_filter}
 use Rattle.dali_history.specs.History.{AreSpelled}
 use Rattle.dali_history.proofs.Ascending.{begun_ascends}
@@ -53,53 +53,11 @@ use Rattle.dali_bytes.proofs.Numbers.{length-number32, length-number64}
 use Rattle.dali_system.specs.State.{log_after}
 use Rattle.dali_traces.specs.Disks.{IsPendingIn, IsRowIn, pending_bytes, row_bytes, txn_in, undoes_on}
 use Rattle.dali_traces.specs.Heads.{HeadsFit, KeptFits, StaysFitting, NextFits}
-use Rattle.dali_record.specs.declared.operations.Outcome.TheVariants.{Found, Absent, Added, NoEntry, Killed, Put as PutIn, NoCell, Value, Changed, NotLive, OtherKey, OddLength, Undone}
+use Rattle.dali_record.specs.declared.operations.Outcome.TheVariants.{Added, Killed, Put as PutIn, Changed}
 use Rattle.dali_record.specs.declared.operations.Undo.TheVariants.{FreeCell as UndoFreeCell, ReviveCell as UndoReviveCell, Restore as UndoRestore, FreeEntry as UndoFreeEntry, ReviveEntry as UndoReviveEntry}
 use Rattle.dali_counts.proofs.ShortLogs.{begun_most, undo_most}
 use Rattle.dali_system.specs.Run.{LogRun, no_image}
 use Rattle.dali_crash.proofs.RecoveredWords.{all_drop_last}
-
-ran : (s : Sizes) (h k : Rules) (r : Record) → separates r ≡ false → rules_step s h r ≡ Some k → runs s h r ≡ Some k
-ran s h k r w e = by_test (h.count == 0) e
-  where
-    plain : (q : Record) → separates q ≡ false → rules_behind s h q ≡ Some k → runs s h q ≡ Some k
-    plain q v f = by_failed (h.failed) (behind_is q v f)
-      where
-        by_failed : (b : Bool) → cond b None (runs s h q) ≡ Some k → runs s h q ≡ Some k
-        by_failed true g = absurd (cc)
-        by_failed false g = g
-
-        behind_is : (x : Record) → separates x ≡ false → rules_behind s h x ≡ Some k → cond h.failed None (runs s h x) ≡ Some k
-        behind_is (Format i j) v f = absurd (cc)
-        behind_is (Begin t) v f = f
-        behind_is (Forward t b) v f = f
-        behind_is (Done t c a) v f = f
-        behind_is (Commit t) v f = f
-        behind_is (Ended t) v f = f
-        behind_is (Solo t p b) v f = f
-        behind_is AuditBegin v f = f
-        behind_is (AuditClean b) v f = f
-        behind_is (AuditFail b rs) v f = f
-        behind_is (Restarted rs ds) v f = absurd (cc)
-        behind_is (Back t b) v f = f
-
-    first : (x : Record) → separates x ≡ false → rules_first s h x ≡ Some k → runs s h x ≡ Some k
-    first (Format i j) v f = absurd (cc)
-    first (Begin t) v f = absurd (cc)
-    first (Forward t b) v f = absurd (cc)
-    first (Done t c a) v f = absurd (cc)
-    first (Commit t) v f = absurd (cc)
-    first (Ended t) v f = absurd (cc)
-    first (Solo t p b) v f = absurd (cc)
-    first AuditBegin v f = absurd (cc)
-    first (AuditClean b) v f = absurd (cc)
-    first (AuditFail b rs) v f = absurd (cc)
-    first (Restarted rs ds) v f = absurd (cc)
-    first (Back t b) v f = absurd (cc)
-
-    by_test : (c : Bool) → cond c (rules_first s h r) (rules_behind s h r) ≡ Some k → runs s h r ≡ Some k
-    by_test true f = first r w f
-    by_test false f = plain r w f
 
 -- what the rules say of a record behind the log Y
 runs_behind : (s : Sizes) (Y : List Record) (r : Record) → separates r ≡ false → IsLegalFor s (Y ++ r ∷ []) → (h k : Rules) × (rules_state s Y ≡ Some h) × (rules_state s (Y ++ r ∷ []) ≡ Some k) × (runs s h r ≡ Some k)
@@ -158,11 +116,6 @@ undos_few t = by_push (λ E. length (undos_of t E) ≤ length E) (omega arith) (
 abbrev open_records : List Record → List Record
 open_records Y = (last_epoch Y).records
 
-none_now : (Y : List Record) (r : Record) → separates r ≡ true → (last_epoch (Y ++ r ∷ [])).records ≡ []
-none_now Y (Format i j) e = ap (λ (c : Cut). c.now.records) (cut_push Y (Format i j))
-none_now Y (Restarted rs ds) e = ap (λ (c : Cut). c.now.records) (cut_push Y (Restarted rs ds))
-none_now Y _ e = absurd (cc)
-
 more_now : (Y : List Record) (r : Record) → separates r ≡ false → (last_epoch (Y ++ r ∷ [])).records ≡ (last_epoch Y).records ++ r ∷ []
 more_now Y r e = ap (λ (z : Epoch). z.records) (last_push Y r e)
 
@@ -189,119 +142,49 @@ kind_of s r Look o u k h = absurd (cc)
 kind_of s r (Add p) o u k h = by_outcome o u h
   where
     by_undo : (e : ℕ) (v : Undo) → frees_entry e (Some v) ≡ true → undoes_on s r v ≡ true
-    by_undo e (UndoFreeCell c) q = absurd (cc)
-    by_undo e (UndoReviveCell c) q = absurd (cc)
-    by_undo e (UndoRestore c n ws) q = absurd (cc)
     by_undo e (UndoFreeEntry f) q = k
-    by_undo e (UndoReviveEntry f) q = absurd (cc)
+    by_undo e _ q = absurd (cc)
 
     by_outcome : (z : Outcome) (v : Undo) → undoes_add z (Some v) ≡ true → undoes_on s r v ≡ true
     by_outcome (Added e) v q = by_undo e v q
-    by_outcome (Found a b) v q = absurd (cc)
-    by_outcome (Absent b) v q = absurd (cc)
-    by_outcome NoEntry v q = absurd (cc)
-    by_outcome Killed v q = absurd (cc)
-    by_outcome (PutIn c) v q = absurd (cc)
-    by_outcome NoCell v q = absurd (cc)
-    by_outcome (Value ws) v q = absurd (cc)
-    by_outcome Changed v q = absurd (cc)
-    by_outcome (NotLive n) v q = absurd (cc)
-    by_outcome (OtherKey n) v q = absurd (cc)
-    by_outcome (OddLength n) v q = absurd (cc)
-    by_outcome Undone v q = absurd (cc)
+    by_outcome _ v q = absurd (cc)
 kind_of s r (KillEntry e) o u k h = by_outcome o u h
   where
     by_undo : (v : Undo) → revives_entry e (Some v) ≡ true → undoes_on s r v ≡ true
-    by_undo (UndoFreeCell c) q = absurd (cc)
-    by_undo (UndoReviveCell c) q = absurd (cc)
-    by_undo (UndoRestore c n ws) q = absurd (cc)
-    by_undo (UndoFreeEntry f) q = absurd (cc)
     by_undo (UndoReviveEntry f) q = k
+    by_undo _ q = absurd (cc)
 
     by_outcome : (z : Outcome) (v : Undo) → undoes_kill_entry e z (Some v) ≡ true → undoes_on s r v ≡ true
     by_outcome Killed v q = by_undo v q
-    by_outcome (Added f) v q = absurd (cc)
-    by_outcome (Found a b) v q = absurd (cc)
-    by_outcome (Absent b) v q = absurd (cc)
-    by_outcome NoEntry v q = absurd (cc)
-    by_outcome (PutIn c) v q = absurd (cc)
-    by_outcome NoCell v q = absurd (cc)
-    by_outcome (Value ws) v q = absurd (cc)
-    by_outcome Changed v q = absurd (cc)
-    by_outcome (NotLive n) v q = absurd (cc)
-    by_outcome (OtherKey n) v q = absurd (cc)
-    by_outcome (OddLength n) v q = absurd (cc)
-    by_outcome Undone v q = absurd (cc)
+    by_outcome _ v q = absurd (cc)
 kind_of s r (Put w) o u k h = by_outcome o u h
   where
     by_undo : (c : ℕ) (v : Undo) → frees_cell c (Some v) ≡ true → undoes_on s r v ≡ true
     by_undo c (UndoFreeCell d) q = k
-    by_undo c (UndoReviveCell d) q = absurd (cc)
-    by_undo c (UndoRestore d n ws) q = absurd (cc)
-    by_undo c (UndoFreeEntry f) q = absurd (cc)
-    by_undo c (UndoReviveEntry f) q = absurd (cc)
+    by_undo c _ q = absurd (cc)
 
     by_outcome : (z : Outcome) (v : Undo) → undoes_put z (Some v) ≡ true → undoes_on s r v ≡ true
     by_outcome (PutIn c) v q = by_undo c v q
-    by_outcome (Added f) v q = absurd (cc)
-    by_outcome (Found a b) v q = absurd (cc)
-    by_outcome (Absent b) v q = absurd (cc)
-    by_outcome NoEntry v q = absurd (cc)
-    by_outcome Killed v q = absurd (cc)
-    by_outcome NoCell v q = absurd (cc)
-    by_outcome (Value ws) v q = absurd (cc)
-    by_outcome Changed v q = absurd (cc)
-    by_outcome (NotLive n) v q = absurd (cc)
-    by_outcome (OtherKey n) v q = absurd (cc)
-    by_outcome (OddLength n) v q = absurd (cc)
-    by_outcome Undone v q = absurd (cc)
+    by_outcome _ v q = absurd (cc)
 kind_of s r (Read c) o u k h = absurd (cc)
 kind_of s r (Change c w) o u k h = by_outcome o u h
   where
     by_undo : (v : Undo) → restores c (Some v) ≡ true → undoes_on s r v ≡ true
-    by_undo (UndoFreeCell d) q = absurd (cc)
-    by_undo (UndoReviveCell d) q = absurd (cc)
     by_undo (UndoRestore d n ws) q = k
-    by_undo (UndoFreeEntry f) q = absurd (cc)
-    by_undo (UndoReviveEntry f) q = absurd (cc)
+    by_undo _ q = absurd (cc)
 
     by_outcome : (z : Outcome) (v : Undo) → undoes_change c z (Some v) ≡ true → undoes_on s r v ≡ true
     by_outcome Changed v q = by_undo v q
-    by_outcome (Added f) v q = absurd (cc)
-    by_outcome (Found a b) v q = absurd (cc)
-    by_outcome (Absent b) v q = absurd (cc)
-    by_outcome NoEntry v q = absurd (cc)
-    by_outcome Killed v q = absurd (cc)
-    by_outcome (PutIn d) v q = absurd (cc)
-    by_outcome NoCell v q = absurd (cc)
-    by_outcome (Value ws) v q = absurd (cc)
-    by_outcome (NotLive n) v q = absurd (cc)
-    by_outcome (OtherKey n) v q = absurd (cc)
-    by_outcome (OddLength n) v q = absurd (cc)
-    by_outcome Undone v q = absurd (cc)
+    by_outcome _ v q = absurd (cc)
 kind_of s r (KillCell c) o u k h = by_outcome o u h
   where
     by_undo : (v : Undo) → revives_cell c (Some v) ≡ true → undoes_on s r v ≡ true
-    by_undo (UndoFreeCell d) q = absurd (cc)
     by_undo (UndoReviveCell d) q = k
-    by_undo (UndoRestore d n ws) q = absurd (cc)
-    by_undo (UndoFreeEntry f) q = absurd (cc)
-    by_undo (UndoReviveEntry f) q = absurd (cc)
+    by_undo _ q = absurd (cc)
 
     by_outcome : (z : Outcome) (v : Undo) → undoes_kill_cell c z (Some v) ≡ true → undoes_on s r v ≡ true
     by_outcome Killed v q = by_undo v q
-    by_outcome (Added f) v q = absurd (cc)
-    by_outcome (Found a b) v q = absurd (cc)
-    by_outcome (Absent b) v q = absurd (cc)
-    by_outcome NoEntry v q = absurd (cc)
-    by_outcome (PutIn d) v q = absurd (cc)
-    by_outcome NoCell v q = absurd (cc)
-    by_outcome (Value ws) v q = absurd (cc)
-    by_outcome Changed v q = absurd (cc)
-    by_outcome (NotLive n) v q = absurd (cc)
-    by_outcome (OtherKey n) v q = absurd (cc)
-    by_outcome (OddLength n) v q = absurd (cc)
-    by_outcome Undone v q = absurd (cc)
+    by_outcome _ v q = absurd (cc)
 kind_of s r (FreeCell c) o u k h = absurd (cc)
 kind_of s r _ o u k h = absurd (cc)
 
@@ -753,7 +636,7 @@ stays_fitting bases before st h image run begun number place regions_are words =
     some = omega (arith, size, w.from, begins_late L s.index s.heap (subst (λ M. slice_get M 0 ≡ Some (Format s.index s.heap)) (sym log) run.run.run.runs.log.format))
 
 -- ---- the words, once each region has a copy
-words_told : (told : ℕ → List ℕ) (k n : ℕ) → ((r : ℕ) → r < k + n → AreWords (told r)) → AllByRecursion AreWords (map told (range_with_len k n))
+words_told : (told : ℕ → List ℕ) (k n : ℕ) → ((r : ℕ) → r < k + n → AreWords (told r)) → AllAreWords (map told (range_with_len k n))
 words_told told k zero each = tt
 words_told told k (suc n) each = (each k (omega arith), words_told told (k + 1) n (λ r lt. each r (omega (arith, lt))))
 

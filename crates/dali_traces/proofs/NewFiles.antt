@@ -243,7 +243,7 @@ module _ (bases : Bases) (before : List Record) (p : Point) (run : StoreRun base
     back_is = ap (λ (t : Told). t (target p) r) told ∙ (ap (λ b. cond (b && (r == r)) step.0.back (p.told (target p) r)) (side_self (target p)) ∙ ap (λ b. cond b step.0.back (p.told (target p) r)) (eq-eqb r r refl))
 
     size : length (q.told (target p) r) ≡ 64
-    size = ap length back_is ∙ (runs.regions r step.0 step.1).protected.back_size
+    size = ap length back_is ∙ (runs.regions r step.0 step.1).protected.back.0
 
     copied_on : (side : Side) (j : ℕ) → HasCopy p side j → HasCopy q side j
     copied_on side j e = subst (λ (c : Side → ℕ → Option Copy). is_some (c side j) ≡ true) (sym copies) (some_with (same_side side (target p) && (j == r)) n (p.copies side j) e)

@@ -8,11 +8,10 @@
 --     NextFits                 once each region has a copy, the words fit too, a region with stray writes among them: so what a checkpoint kept and copied can
 --                              be the next image
 use Rattle.std.specs.Prelude.{◌≡◌, ◌⊎◌, ◌<◌, ◌+◌, ℕ, List, [], Some, true, is_some, length, sum_by}
-use Rattle.std.specs.List.{AllByRecursion}
 use Rattle.dali_geometry.specs.Sizes.{Sizes}
 use Rattle.dali_geometry.specs.Places.{regions}
 use Rattle.dali_record.specs.declared.records.Record.{Record}
-use Rattle.dali_record.specs.Blocks.{AreWords}
+use Rattle.dali_record.specs.Blocks.{AllAreWords}
 use Rattle.dali_record.specs.Epochs.{last_epoch}
 use Rattle.dali_record.specs.Legal.{IsLegalFor}
 use Rattle.dali_record.specs.Files.{table_before, next_after}
@@ -34,14 +33,14 @@ abbrev pub HeadsFit : Type 0
 HeadsFit =
     (s : Sizes) (L : List Record) (h : Head) (image : List (List ℕ)) → IsLegalFor s L → AreSpelled L → 0 < length L → IsHeadOf L h
     → Is64 h.number → Is64 h.place
-    → length image ≡ regions s → AllByRecursion AreWords image
+    → length image ≡ regions s → AllAreWords image
     → CanBeImage s h image
 
 abbrev pub KeptFits : Type 0
 KeptFits =
     (bases : Bases) (L : List Record) (c : CoreState) (image : List (List ℕ)) → RunsOn bases L c
     → Is64 (c.vault.current + 1) → Is64 c.vault.end
-    → length image ≡ regions c.system.sizes → AllByRecursion AreWords image
+    → length image ≡ regions c.system.sizes → AllAreWords image
     → CanBeImage c.system.sizes (head_now L c) image
 
 -- at the writes, the syncs and the anchor's move, however many records were logged since
@@ -49,7 +48,7 @@ abbrev pub StaysFitting : Type 0
 StaysFitting =
     (bases : Bases) (before : List Record) (p : Point) (h : Head) (image : List (List ℕ)) → StoreRun bases before no_image p
     → p.begun ≡ Some h → Is64 h.number → Is64 h.place
-    → length image ≡ regions p.core.system.sizes → AllByRecursion AreWords image
+    → length image ≡ regions p.core.system.sizes → AllAreWords image
     → CanBeImage p.core.system.sizes h image
 
 abbrev pub NextFits : Type 0

@@ -5,7 +5,7 @@ use Rattle.std.proofs.lemmas.Bool.{ne_eqb}
 use Rattle.dali_counts.proofs.Lists.{some_same}
 use Rattle.dali_record.specs.declared.records.Call.TheVariants.{Get}
 use Rattle.dali_record.specs.declared.records.Record.TheVariants.{Begin, Commit, AuditFail}
-use Rattle.dali_region.specs.State.{RegionState, IsLive, loaded}
+use Rattle.dali_region.specs.State.{RegionState, IsLive, loaded, poked}
 use Rattle.dali_system.specs.declared.causes.Cause.TheVariants.{Damage}
 use Rattle.dali_transcripts.specs.Words.{Begins as BeginAct, Calls, Commits as CommitAct, Aborts as AbortAct, Audits as AuditAct, Checkpoints as CheckpointAct, StoppedBy, Full}
 use Rattle.dali_transcripts.specs.World.{Logs, log_of, log_at, state_step, lock_step, stray_after}
@@ -16,7 +16,7 @@ use Rattle.dali_transcripts.specs.Rounds.{PokesTell, VerdictsTell, IsAtRest, IsB
 use Rattle.dali_transcripts.specs.Worked.{index_words, heap_words}
 use Rattle.dali_transcripts.specs.Corners.{happened, told_1, told_2, blocks, lines_1, lines_2, world, CornersRun}
 use Rattle.dali_transcripts.proofs.Verdicts.{begin_is, ends_at, found_is}
-use Rattle.dali_transcripts.proofs.Ends.{grew_from, no_row, all_ended, all_freed, none_claimed, none_failed, not_live, strays_same}
+use Rattle.dali_transcripts.proofs.Ends.{grew_from, no_row, none_claimed, none_failed, neither_live, strays_same, whole_round, ended_together}
 
 moves_1 : List Move
 moves_1 =
@@ -136,9 +136,7 @@ verdict i b c found e r g was =
     rw (here, named, begun) (5, omega arith, omega (arith, size), names r g was)
 
 holds : (r : ℕ) (g : RegionState) → slice_get world.core.regions r ≡ Some g → IsLive g → ⊥
-holds zero g e live = not_live _ g (some_same e) refl live
-holds (suc zero) g e live = not_live _ g (some_same e) refl live
-holds (suc (suc r)) g e live = absurd (cc)
+holds = neither_live (loaded index_words) (poked 9 1 (loaded heap_words)) refl refl
 
 -- all transactions have ended
 ended : (t : ℕ) → fold (state_step t) None happened ≡ None
@@ -162,31 +160,10 @@ unfolding transcripts so_1 so_2 moves_1 moves_2
 corners_run = record {
   lines = lines_2 ∷ lines_1 ∷ [];
   receipts = (1 ∷ 2 ∷ []) ∷ (3 ∷ 4 ∷ []) ∷ [];
-  round = record {
-    world = world;
-    old_is = refl;
-    before_is = refl;
-    precheck_is = refl;
-    core_is = refl;
-    grew = grew_from world refl refl refl refl refl (omega arith);
-    log = refl;
-    transcripts = transcripts;
-    receipts_are = refl;
-    right = (refl, (tt, (refl, (refl, ((BeginAct, None, full_2), (refl, ((BeginAct, None, (tt, refl)), ((BeginAct, None, (tt, refl)), tt))))))));
-    together = record {
-      spans = tt;
-      anchors = refl;
-      pokes = strays;
-      verdicts = verdict;
-      states = all_ended world refl refl ended;
-      locks = all_freed world refl freed;
-      faults = none_failed world refl refl refl refl refl;
-      refusals = refl;
-      room = refl;
-      prechecks = λ yes. let no : false ≡ true = yes in absurd (cc);
-    };
-    rests = rests;
-    between = λ whole. between;
-  };
+  round =
+      whole_round world _ _ _ _ refl (grew_from world refl refl refl refl refl (omega arith)) refl transcripts refl
+      (refl, (tt, (refl, (refl, ((BeginAct, None, full_2), (refl, ((BeginAct, None, (tt, refl)), ((BeginAct, None, (tt, refl)), tt))))))))
+      (ended_together world tt refl strays verdict refl refl refl ended freed (none_failed world refl refl refl refl refl) refl refl refl)
+      rests between;
   printed_is = refl;
 }

@@ -1,18 +1,23 @@
 -- What the worked rounds leave: nothing that was there is lost, the table is as the deeds leave it, and no hold is live.
-use Rattle.std.proofs.Common.{◌≡◌, ℕ, ◌≤◌, Bool, true, false, List, [], Option, Some, None, refl, ap, sym, subst, ◌∙◌}
-use Rattle.std.specs.Prelude.{◌==◌, IsSome, IsSomeAnd, is_some, fold, not, take}
+use Rattle.std.proofs.Common.{◌≡◌, ℕ, zero, suc, ◌≤◌, Bool, true, false, List, [], ◌∷◌, ◌++◌, Option, Some, None, refl, ap, sym, subst, ◌∙◌, arith}
+use Rattle.std.specs.Prelude.{◌==◌, IsSome, IsSomeAnd, is_some, fold, not, slice_get, sum_by, take}
 use Rattle.std.specs.List.{list_all}
 use Rattle.std.specs.Ordering.{nat_cmp}
 use Rattle.std.specs.FinMap.{get, empty, get-empty}
+use Rattle.std.proofs.lemmas.Bool.{ne_eqb}
+use Rattle.dali_counts.proofs.Lists.{some_same}
+use Rattle.dali_record.specs.declared.records.Record.{Record}
+use Rattle.dali_record.specs.Spelling.{record_length}
 use Rattle.dali_region.specs.declared.Hold.{Hold}
 use Rattle.dali_region.specs.State.{RegionState, IsLive}
 use Rattle.dali_locks.specs.declared.mode.Mode.{Mode}
 use Rattle.dali_locks.specs.Locks.{lock_cmp}
-use Rattle.dali_system.specs.State.{SystemState, row_of, state_in, state_of, lock_of, stable}
-use Rattle.dali_transcripts.specs.Words.{StoreFailed}
-use Rattle.dali_transcripts.specs.World.{Meets, Happening, World, state_step, state_after, lock_step, lock_after, IsNoWeaker, is_claimed_in, has_failed, stray_after, poked_after, Grows}
-use Rattle.dali_transcripts.specs.Causes.{IsGrantable}
-use Rattle.dali_transcripts.specs.Rounds.{FaultsTell}
+use Rattle.dali_system.specs.State.{SystemState, row_of, state_in, state_of, lock_of, log_after, stable}
+use Rattle.dali_transcripts.specs.Words.{Said, StoreFailed}
+use Rattle.dali_transcripts.specs.World.{Meets, Happening, World, state_step, state_after, lock_step, lock_after, IsNoWeaker, is_claimed_in, has_failed, log_of, stray_after, poked_after, refused_by, Grows}
+use Rattle.dali_transcripts.specs.Causes.{AreRight, IsGrantable}
+use Rattle.dali_transcripts.specs.Transcripts.{AreHanded, AreTranscripts, Told, receipts_of}
+use Rattle.dali_transcripts.specs.Rounds.{AreAnchors, AreSpans, FaultsTell, HoldsTogether, IsAtRest, IsBetween, IsRound, PokesTell, VerdictsTell, fits}
 use Rattle.dali_transcripts.proofs.Lists.{none_in}
 use Rattle.dali_transcripts.proofs.Verdicts.{never}
 
@@ -75,10 +80,24 @@ none_failed w old new faults none all = record {
   rose = λ e. let no : false ≡ true = sym none ∙ e in absurd (cc);
 }
 
+-- numbers above three are none of the first
+pub above_three : (t : ℕ) → ((1 == suc (suc (suc (suc t)))) ≡ false) × ((2 == suc (suc (suc (suc t)))) ≡ false) × ((3 == suc (suc (suc (suc t)))) ≡ false)
+above_three t = (
+  ne_eqb 1 (suc (suc (suc (suc t)))) (λ e. absurd (omega (arith, e))),
+  ne_eqb 2 (suc (suc (suc (suc t)))) (λ e. absurd (omega (arith, e))),
+  ne_eqb 3 (suc (suc (suc (suc t)))) (λ e. absurd (omega (arith, e))),
+)
+
 pub not_live : (a g : RegionState) → a ≡ g → a.hold ≡ None → IsLive g → ⊥
 not_live a g e none live =
     let no : IsSomeAnd None (λ (h : Hold). h.dead ≡ false) = subst (λ (o : Option Hold). IsSomeAnd o (λ (h : Hold). h.dead ≡ false)) (ap (λ (z : RegionState). z.hold) (sym e) ∙ none) live in
     absurd no
+
+-- nor of two regions
+pub neither_live : (a b : RegionState) → a.hold ≡ None → b.hold ≡ None → (r : ℕ) (g : RegionState) → slice_get (a ∷ b ∷ []) r ≡ Some g → IsLive g → ⊥
+neither_live a b first second zero g e live = not_live a g (some_same e) first live
+neither_live a b first second (suc zero) g e live = not_live b g (some_same e) second live
+neither_live a b first second (suc (suc r)) g e live = absurd (cc)
 
 -- the stray writes of a region before and behind these deeds
 abbrev pub ArePoked : List Happening → ℕ → RegionState → RegionState → Type 0
@@ -86,3 +105,40 @@ ArePoked xs r g h = (h.stray ≡ stray_after r g.stray xs) × (h.poked ≡ poked
 
 pub strays_same : (xs : List Happening) (r : ℕ) (a b g h : RegionState) → a ≡ g → b ≡ h → ArePoked xs r a b → ArePoked xs r g h
 strays_same xs r a b g h e f are = subst (λ z. ArePoked xs r z h) e (subst (λ z. ArePoked xs r a z) f are)
+
+-- ---- all of it
+-- where each transaction has ended, no call of the store failed, and no look is tested
+pub ended_together : (w : World) → AreSpans None w.happened → AreAnchors w.old.vault.current w.happened w.core.vault.current → PokesTell w → VerdictsTell w
+    → w.old.system.table ≡ empty → w.core.system.table ≡ empty → w.old.system.locks ≡ empty → ((t : ℕ) → fold (state_step t) None w.happened ≡ None) → ((t k : ℕ) → fold (lock_step t k) None w.happened ≡ None)
+    → FaultsTell w → w.core.system.refusals ≡ w.old.system.refusals ++ refused_by w.happened → fits w.old.system.limit (sum_by record_length w.before) w.happened ≡ true → w.precheck ≡ false → HoldsTogether w
+ended_together w spans anchors pokes verdicts old new locks ended freed faults refusals room unchecked = record {
+  spans = spans;
+  anchors = anchors;
+  pokes = pokes;
+  verdicts = verdicts;
+  states = all_ended w old new ended;
+  locks = all_freed w locks freed;
+  faults = faults;
+  refusals = refusals;
+  room = room;
+  prechecks = λ yes. let no : false ≡ true = sym unchecked ∙ yes in absurd (cc);
+}
+
+pub whole_round : (w : World) (before : List Record) (blocks : List Told) (lines : List (List Said)) (receipts : List (List ℕ)) → w.before ≡ log_after before w.old.system → Grows (record w { happened = []; core = w.old }) w
+    → log_after before w.core.system ≡ log_of w → AreTranscripts true w blocks lines → AreHanded true (receipts_of w blocks) receipts → AreRight w → HoldsTogether w → IsAtRest w.core → IsBetween w.core
+    → IsRound w.precheck true before w.old w.core blocks lines receipts
+whole_round w before blocks lines receipts stood grew log transcripts handed right together rests between = record {
+  world = w;
+  old_is = refl;
+  before_is = stood;
+  precheck_is = refl;
+  core_is = refl;
+  grew = grew;
+  log = log;
+  transcripts = transcripts;
+  receipts_are = handed;
+  right = right;
+  together = together;
+  rests = rests;
+  between = λ whole. between;
+}

@@ -1,6 +1,6 @@
 -- The third worked round.
 use Rattle.std.proofs.Common.{◌≡◌, ◌≢◌, ℕ, zero, suc, true, false, List, [], ◌∷◌, Some, None, refl, ap, sym, subst, ◌∙◌, inl, arith}
-use Rattle.std.specs.Prelude.{◌++◌, Bool, if◌then◌else◌, ◌==◌, fold, length, slice_get, take, Contains, ◌↔◌}
+use Rattle.std.specs.Prelude.{◌++◌, if◌then◌else◌, ◌==◌, fold, length, slice_get, take, Contains, ◌↔◌}
 use Rattle.std.specs.FinMap.{empty, insert, get-empty}
 use Rattle.std.specs.Ordering.{nat_cmp}
 use Rattle.dali_att.specs.Table.{fresh_row}
@@ -9,12 +9,12 @@ use Rattle.std.proofs.lemmas.Bool.{ne_eqb}
 use Rattle.std.proofs.lemmas.List.{append-nil}
 use Rattle.dali_counts.proofs.Lists.{some_same}
 use Rattle.dali_record.specs.declared.records.Record.TheVariants.{Forward, Ended, AuditClean}
-use Rattle.dali_region.specs.State.{RegionState, IsLive, loaded}
+use Rattle.dali_region.specs.State.{RegionState, IsLive, loaded, poked}
 use Rattle.dali_system.specs.declared.causes.Cause.TheVariants.{Store}
 use Rattle.dali_system.specs.State.{row_of, state_in, state_of}
 use Rattle.dali_transcripts.specs.Words.{Begins as BeginAct, Calls, Commits as CommitAct, Aborts as AbortAct, Checkpoints as CheckpointAct, StoppedBy, Damaged, StoreFailed, UnderWay}
 use Rattle.dali_locks.specs.declared.mode.Mode.TheVariants.{Exclusive}
-use Rattle.dali_transcripts.specs.World.{Logs, DiesOn, GetsLock, Meets, Happening, log_at, state_step, lock_step, is_claimed_in, stray_after}
+use Rattle.dali_transcripts.specs.World.{Logs, DiesOn, GetsLock, Meets, log_at, state_step, lock_step, is_claimed_in, stray_after}
 use Rattle.dali_transcripts.specs.Moves.{Outside, Move, Begins, IsRefusedBegin, Skips, IsRefusedCall, Commits, CommitFails, StaysOpen, Pokes, Checkpoints, IsRefusedCheckpoint, at}
 use Rattle.dali_transcripts.specs.Causes.{IsDamaged, IsUnderWay, IsGrantable}
 use Rattle.dali_transcripts.specs.Transcripts.{IsSoFar, deeds_of, AreTranscripts}
@@ -25,8 +25,8 @@ use Rattle.dali_record.specs.Epochs.{last_epoch}
 use Rattle.dali_transcripts.proofs.Looks.{looks_now}
 use Rattle.dali_transcripts.proofs.Locked.{keeps_locks}
 use Rattle.dali_transcripts.proofs.Worked.{puts_a}
-use Rattle.dali_transcripts.proofs.Verdicts.{begin_is, ends_at, found_is, never, only_at}
-use Rattle.dali_transcripts.proofs.Ends.{fails, grew_from, no_state, all_freed, none_in_the_way, not_live, strays_same}
+use Rattle.dali_transcripts.proofs.Verdicts.{begin_is, ends_at, found_is, is_death, is_operation, never, only_at, region_in}
+use Rattle.dali_transcripts.proofs.Ends.{fails, grew_from, no_state, all_freed, none_in_the_way, neither_live, strays_same, above_three, whole_round}
 
 moves_1 : List Move
 moves_1 =
@@ -156,9 +156,7 @@ verdict i b c found e r g was =
     rw (here, named, begun) (3, omega arith, omega (arith, size), names r g was)
 
 holds : (r : ℕ) (g : RegionState) → slice_get world.core.regions r ≡ Some g → IsLive g → ⊥
-holds zero g e live = not_live _ g (some_same e) refl live
-holds (suc zero) g e live = not_live _ g (some_same e) refl live
-holds (suc (suc r)) g e live = absurd (cc)
+holds = neither_live (loaded index_words) (poked 9 1 (loaded heap_words)) refl refl
 
 -- ---- the table
 kept : (t : ℕ) → state_in (if 3 == t then Some fresh_row else (if 2 == t then Some committed else None)) ≡ fold (state_step t) None happened
@@ -166,10 +164,7 @@ kept zero = refl
 kept (suc zero) = refl
 kept (suc (suc zero)) = refl
 kept (suc (suc (suc zero))) = refl
-kept (suc (suc (suc (suc t)))) =
-    let a : (1 == suc (suc (suc (suc t)))) ≡ false = ne_eqb 1 (suc (suc (suc (suc t)))) (λ e. absurd (omega (arith, e))) in
-    let b : (2 == suc (suc (suc (suc t)))) ≡ false = ne_eqb 2 (suc (suc (suc (suc t)))) (λ e. absurd (omega (arith, e))) in
-    let d : (3 == suc (suc (suc (suc t)))) ≡ false = ne_eqb 3 (suc (suc (suc (suc t)))) (λ e. absurd (omega (arith, e))) in rw (a, b, d) refl
+kept (suc (suc (suc (suc t)))) = let apart = above_three t in rw (apart.0, apart.1, apart.2) refl
 
 row_is : (t : ℕ) → row_of world.core.system t ≡ (if 3 == t then Some fresh_row else (if 2 == t then Some committed else None))
 row_is t =
@@ -181,10 +176,7 @@ none_claimed zero = refl
 none_claimed (suc zero) = refl
 none_claimed (suc (suc zero)) = refl
 none_claimed (suc (suc (suc zero))) = refl
-none_claimed (suc (suc (suc (suc t)))) =
-    let a : (1 == suc (suc (suc (suc t)))) ≡ false = ne_eqb 1 (suc (suc (suc (suc t)))) (λ e. absurd (omega (arith, e))) in
-    let b : (2 == suc (suc (suc (suc t)))) ≡ false = ne_eqb 2 (suc (suc (suc (suc t)))) (λ e. absurd (omega (arith, e))) in
-    let d : (3 == suc (suc (suc (suc t)))) ≡ false = ne_eqb 3 (suc (suc (suc (suc t)))) (λ e. absurd (omega (arith, e))) in rw (a, b, d) refl
+none_claimed (suc (suc (suc (suc t)))) = let apart = above_three t in rw (apart.0, apart.1, apart.2) refl
 
 freed : (t k : ℕ) → fold (lock_step t k) None happened ≡ None
 freed zero k = refl
@@ -207,18 +199,6 @@ failed = record {
 }
 
 -- ---- the one operation is on a region that is right
-abbrev is_operation : Happening → Bool
-is_operation (Logs (Forward t b), c) = true
-is_operation x = false
-
-abbrev is_death : Happening → Bool
-is_death (DiesOn t r, c) = true
-is_death x = false
-
-abbrev region_in : Happening → ℕ
-region_in (Logs (Forward t b), c) = b.region
-region_in x = 0
-
 right_at : (r : ℕ) (g : RegionState) → r ≡ 0 → slice_get world.old.regions r ≡ Some g → stray_after r g.stray (take 11 happened) ≡ 0
 right_at zero g z e = subst (λ (y : RegionState). stray_after 0 y.stray (take 11 happened) ≡ 0) (some_same e) refl
 right_at (suc r) g z e = absurd (cc)
@@ -243,31 +223,21 @@ unfolding transcripts so_1 so_2 so_3 moves_1 moves_2 moves_3
 faults_run = record {
   lines = lines_1 ∷ lines_2 ∷ lines_3 ∷ [];
   receipts = (3 ∷ 6 ∷ 7 ∷ 8 ∷ []) ∷ (1 ∷ 2 ∷ 5 ∷ []) ∷ (4 ∷ 9 ∷ []) ∷ [];
-  round = record {
-    world = world;
-    old_is = refl;
-    before_is = refl;
-    precheck_is = refl;
-    core_is = refl;
-    grew = grew_from world refl refl refl refl refl (omega arith);
-    log = refl;
-    transcripts = transcripts;
-    receipts_are = refl;
-    right = (tt, ((CheckpointAct, None, under_way_1), (refl, (refl, (tt, (tt, (tt, (refl, (refl, (refl, ((refl, refl, free_1), (refl, ((Calls insert_a, Some 1, damaged_1), (refl, (refl, (refl, (tt, ((BeginAct, None, (tt, refl)), ((BeginAct, None, (tt, refl)), tt)))))))))))))))))));
-    together = record {
-      spans = (refl, (refl, tt));
-      anchors = (refl, refl);
-      pokes = strays;
-      verdicts = verdict;
-      states = λ t. state_is t ∙ sym (ap (λ o. fold (state_step t) o happened) (no_state world.old.system refl t));
-      locks = all_freed world refl freed;
-      faults = failed;
-      refusals = refl;
-      room = refl;
-      prechecks = λ yes. prechecks;
-    };
-    rests = rests;
-    between = λ whole. between;
-  };
+  round =
+      whole_round world _ _ _ _ refl (grew_from world refl refl refl refl refl (omega arith)) refl transcripts refl
+      (tt, ((CheckpointAct, None, under_way_1), (refl, (refl, (tt, (tt, (tt, (refl, (refl, (refl, ((refl, refl, free_1), (refl, ((Calls insert_a, Some 1, damaged_1), (refl, (refl, (refl, (tt, ((BeginAct, None, (tt, refl)), ((BeginAct, None, (tt, refl)), tt)))))))))))))))))))
+      (record {
+        spans = (refl, (refl, tt));
+        anchors = (refl, refl);
+        pokes = strays;
+        verdicts = verdict;
+        states = λ t. state_is t ∙ sym (ap (λ o. fold (state_step t) o happened) (no_state world.old.system refl t));
+        locks = all_freed world refl freed;
+        faults = failed;
+        refusals = refl;
+        room = refl;
+        prechecks = λ yes. prechecks;
+      })
+      rests between;
   printed_is = refl;
 }

@@ -1,5 +1,5 @@
 -- Each step of the engine is one in which the world goes on.
-use Rattle.std.proofs.Common.{◌≡◌, ℕ, ◌≤◌, Bool, true, false, List, [], ◌∷◌, ◌++◌, Option, Some, None, refl, ap, sym, subst, ◌∙◌, arith}
+use Rattle.std.proofs.Common.{◌≡◌, ℕ, ◌≤◌, true, false, List, [], ◌∷◌, ◌++◌, Option, Some, None, refl, ap, sym, subst, ◌∙◌, arith}
 use Rattle.std.specs.Prelude.{Contains}
 use Rattle.std.proofs.lemmas.List.{append_assoc, append-nil}
 use Rattle.std.proofs.lemmas.List.Elements.{Contains-append_left}
@@ -11,19 +11,19 @@ use Rattle.dali_system.specs.Steps.{stop_by_audit, stopped_by}
 use Rattle.dali_system.specs.Flushes.{frame_of, longer}
 use Rattle.dali_system.specs.Courses.{Step, Begins, Operates, TakesBack, Frees, Answers, Commits, Ends, AuditBegins, AuditEnds, Locks, Refuses, OnRegion, Passes, Dies, Claims, GivesBack, Recovers, Stops, Checkpoints, Takes, Flushes, Faults, ReadFails, IsStep, Moment, IsCourse}
 use Rattle.dali_system.proofs.Flushes.{longer_stopped}
-use Rattle.dali_transcripts.specs.World.{Happening, Grows}
+use Rattle.dali_transcripts.specs.World.{Happening, World, Grows}
 use Rattle.dali_transcripts.specs.Grown.{world_of, StepsGrow, CoursesGrow}
 use Rattle.dali_transcripts.specs.Laws.{GrowsOn}
 
 -- what a step leaves of a core
-record Onward (c d : CoreState) : Type 0 where
-  sizes : d.system.sizes ≡ c.system.sizes
-  limit : d.system.limit ≡ c.system.limit
-  flushed : stable c ≤ stable d
-  failed : c.vault.stopped ≡ true → d.vault.stopped ≡ true
-  sealed : c.vault.stopped ≡ true → stable d ≡ stable c
-  stop : (cause : Cause) → c.system.stop ≡ Some cause → d.system.stop ≡ Some cause
-  refusals : (f : Refusal) → Contains c.system.refusals f → Contains d.system.refusals f
+pub record Onward (c d : CoreState) : Type 0 where
+  pub sizes : d.system.sizes ≡ c.system.sizes
+  pub limit : d.system.limit ≡ c.system.limit
+  pub flushed : stable c ≤ stable d
+  pub failed : c.vault.stopped ≡ true → d.vault.stopped ≡ true
+  pub sealed : c.vault.stopped ≡ true → stable d ≡ stable c
+  pub stop : (cause : Cause) → c.system.stop ≡ Some cause → d.system.stop ≡ Some cause
+  pub refusals : (f : Refusal) → Contains c.system.refusals f → Contains d.system.refusals f
 
 audit_stop : (found : List ℕ) (o : Option Cause) (cause : Cause) → o ≡ None → o ≡ Some cause → stop_by_audit found o ≡ Some cause
 audit_stop found o cause none some = let no : None ≡ Some cause = sym none ∙ some in absurd (cc)
@@ -33,7 +33,7 @@ keeps_stop None cause e = absurd (cc)
 keeps_stop (Some c) cause e = e
 
 -- the system's stop and refusals, and the vault, as they were
-plain : (c d : CoreState) → d.system.sizes ≡ c.system.sizes → d.system.limit ≡ c.system.limit → d.system.first ≡ c.system.first → d.system.stop ≡ c.system.stop
+pub plain : (c d : CoreState) → d.system.sizes ≡ c.system.sizes → d.system.limit ≡ c.system.limit → d.system.first ≡ c.system.first → d.system.stop ≡ c.system.stop
     → d.system.refusals ≡ c.system.refusals → d.vault ≡ c.vault → Onward c d
 plain c d sizes limit first stop refusals vault =
     let same : stable d ≡ stable c = rw (first, vault) refl in
@@ -104,9 +104,8 @@ course : (m n : Moment) (xs : List Step) → IsCourse m xs n → Onward m.core n
 course m n [] h = subst (λ (k : Moment). Onward m.core k.core) h (still m.core)
 course m n (x ∷ xs) (k, step, rest) = further m.core k.core n.core (along m.log k.log m.core k.core x step.0) (course k n xs rest)
 
-grown : (old : CoreState) (before : List Record) (precheck : Bool) (happened more : List Happening) (c d : CoreState) → Onward c d
-    → Grows (world_of old before precheck happened c) (world_of old before precheck (happened ++ more) d)
-grown old before precheck happened more c d on = record {
+unfoldable pub grown : (v : World) (more : List Happening) (d : CoreState) → Onward v.core d → Grows v (record v { happened = v.happened ++ more; core = d })
+grown v more d on = record {
   old = refl;
   before = refl;
   precheck = refl;
@@ -122,10 +121,10 @@ grown old before precheck happened more c d on = record {
 }
 
 pub steps_grow : StepsGrow
-steps_grow old before precheck happened more m n x step = grown old before precheck happened more m.core n.core (along m.log n.log m.core n.core x step.0)
+steps_grow old before precheck happened more m n x step = grown (world_of old before precheck happened m.core) more n.core (along m.log n.log m.core n.core x step.0)
 
 pub courses_grow : CoursesGrow
-courses_grow old before precheck happened more m n xs is = grown old before precheck happened more m.core n.core (course m n xs is)
+courses_grow old before precheck happened more m n xs is = grown (world_of old before precheck happened m.core) more n.core (course m n xs is)
 
 pub grows_on : GrowsOn
 grows_on = record {

@@ -21,7 +21,7 @@ use Rattle.dali_transcripts.proofs.Deeds.{deeds_are_told}
 use Rattle.dali_transcripts.proofs.Owned.{each_is_owned}
 
 -- dead, or claimed
-is_left : Option State → Bool
+pub is_left : Option State → Bool
 is_left (Some (Dead latched)) = true
 is_left (Some (Cleaning latched)) = true
 is_left o = false
@@ -66,17 +66,17 @@ by_deed t o (GivesBack u latched, c) e = inl (chosen (u == t) (given_back latche
 by_deed t o y e = inl e
 
 -- ---- all deeds
-DiedIn : ℕ → List Happening → Type 0
+abbrev pub DiedIn : ℕ → List Happening → Type 0
 DiedIn t xs = (i c r : ℕ) × (slice_get xs i ≡ Some (DiesOn t r, c))
 
-by_deeds : (t : ℕ) (o : Option State) (xs : List Happening) → is_left (fold (state_step t) o xs) ≡ true → (is_left o ≡ true) ⊎ DiedIn t xs
-unfolding DiedIn IsDeath
-by_deeds t o [] e = inl e
-by_deeds t o (y ∷ ys) e =
+pub left_by_deeds : (t : ℕ) (o : Option State) (xs : List Happening) → is_left (fold (state_step t) o xs) ≡ true → (is_left o ≡ true) ⊎ DiedIn t xs
+unfolding IsDeath
+left_by_deeds t o [] e = inl e
+left_by_deeds t o (y ∷ ys) e =
     ⊎_elim
     (λ before. ⊎_elim (λ h. inl h) (λ h. inr (zero, h.0, h.1, ap Some h.2)) (by_deed t o y before))
     (λ later. inr (suc later.0, later.1, later.2, later.3))
-    (by_deeds t (state_step t o y) ys e)
+    (left_by_deeds t (state_step t o y) ys e)
 
 -- ---- the line of a death
 some_died : List Said → Bool
@@ -142,12 +142,12 @@ found w c (b ∷ blocks) [] e each = absurd each
 found w c (b ∷ blocks) (said ∷ lines) e each = found_by w c b blocks said lines (b.client == c) refl e each.0 (λ more. found w c blocks lines more each.1)
 
 -- ---- a round
-dead_left : (o : Option State) → is_dead_in o ≡ true → is_left o ≡ true
+pub dead_left : (o : Option State) → is_dead_in o ≡ true → is_left o ≡ true
 unfolding is_left
 dead_left (Some (Dead latched)) e = refl
 dead_left o e = absurd (cc)
 
-has_row : (o : Option TxnRow) → is_left (state_in o) ≡ true → IsSome o
+pub has_row : (o : Option TxnRow) → is_left (state_in o) ≡ true → IsSome o
 unfolding is_left
 has_row None e = absurd (cc)
 has_row (Some row) e = refl
@@ -157,7 +157,6 @@ running None f = refl
 running (Some z) f = absurd (f z refl)
 
 pub left_have_died : LeftHaveDied
-unfolding DiedIn
 left_have_died precheck before old new blocks lines receipts round between runs t row =
     let w = round.world in
     let still : old.system.stop ≡ None =
@@ -189,4 +188,4 @@ left_have_died precheck before old new blocks lines receipts round between runs 
       lines_are = told.lines_are;
       tells = says_so w h.1 told.block.acts told.said number t h.2 told.transcript (each_is_owned h.1 (length w.before) w.happened h.0 (DiesOn t h.2) h.3);
     }))
-    (by_deeds t (state_of w.old.system t) w.happened left)
+    (left_by_deeds t (state_of w.old.system t) w.happened left)

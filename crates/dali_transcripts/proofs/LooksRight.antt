@@ -1,6 +1,6 @@
 -- A look that was right before another client wrote astray.
-use Rattle.std.proofs.Common.{◌≡◌, ℕ, zero, suc, ◌<◌, ◌≤◌, true, false, Some, refl, ap, sym, subst, ◌∙◌, arith}
-use Rattle.std.specs.Prelude.{Bool, ◌==◌, slice_get}
+use Rattle.std.proofs.Common.{◌≡◌, ℕ, zero, suc, ◌<◌, ◌≤◌, false, Some, refl, ap, sym, subst, ◌∙◌, arith}
+use Rattle.std.specs.Prelude.{◌==◌, slice_get}
 use Rattle.dali_counts.proofs.Lists.{some_same}
 use Rattle.dali_record.specs.declared.operations.Block.{Block}
 use Rattle.dali_record.specs.declared.records.Record.TheVariants.{Forward}
@@ -9,19 +9,7 @@ use Rattle.dali_transcripts.specs.World.{Deed, Logs, DiesOn, Happening}
 use Rattle.dali_transcripts.specs.Rounds.{is_on, HasLooked}
 use Rattle.dali_transcripts.specs.Worked.{heap_words, put}
 use Rattle.dali_transcripts.specs.Looks.{happened, world, LooksStayRight}
-use Rattle.dali_transcripts.proofs.Verdicts.{never, only_at}
-
-abbrev is_operation : Happening → Bool
-is_operation (Logs (Forward t b), c) = true
-is_operation x = false
-
-abbrev is_death : Happening → Bool
-is_death (DiesOn t r, c) = true
-is_death x = false
-
-abbrev region_in : Happening → ℕ
-region_in (Logs (Forward t b), c) = b.region
-region_in x = 0
+use Rattle.dali_transcripts.proofs.Verdicts.{is_death, is_operation, never, only_at, region_in}
 
 none_astray : (r : ℕ) (g : RegionState) → r ≡ 1 → slice_get world.old.regions r ≡ Some g → g.stray ≡ 0
 none_astray zero g e was = absurd (cc)

@@ -18,17 +18,7 @@ one_append false x xs ys = refl
 -- how many records stand behind the first deed
 pub counts : (n : ℕ) (y : Happening) (ys : List Happening) → count_with n y.0 + length (logged_by ys) ≡ n + length (logged_by (y ∷ ys))
 counts n (Logs x, d) ys = omega arith
-counts n (Strays r word mask, d) ys = refl
-counts n (DiesOn t r, d) ys = refl
-counts n (Claims u, d) ys = refl
-counts n (GivesBack u o, d) ys = refl
-counts n (Yields f, d) ys = refl
-counts n (GetsLock u k m, d) ys = refl
-counts n (FindsDead f, d) ys = refl
-counts n (StartsCheckpoint, d) ys = refl
-counts n (MovesAnchor k, d) ys = refl
-counts n (EndsCheckpoint, d) ys = refl
-counts n (Meets why, d) ys = refl
+counts n _ ys = refl
 
 pub own_goes_on : OwnGoesOn
 own_goes_on c n [] x = rw self let e : n + 0 ≡ n = omega arith in rw e refl

@@ -112,17 +112,7 @@ round_is_cut w (s ∷ ss) all lacks =
 no_lower : (old new : ℕ) (xs : List Happening) → AreAnchors old xs new → old ≤ new
 no_lower old new [] h = omega (arith, h)
 no_lower old new ((MovesAnchor n, c) ∷ xs) h = let more = no_lower n new xs h.1 in omega (arith, h.0, more)
-no_lower old new ((Logs x, c) ∷ xs) h = no_lower old new xs h
-no_lower old new ((Strays r word mask, c) ∷ xs) h = no_lower old new xs h
-no_lower old new ((DiesOn t r, c) ∷ xs) h = no_lower old new xs h
-no_lower old new ((Claims u, c) ∷ xs) h = no_lower old new xs h
-no_lower old new ((GivesBack u o, c) ∷ xs) h = no_lower old new xs h
-no_lower old new ((Yields f, c) ∷ xs) h = no_lower old new xs h
-no_lower old new ((GetsLock u k m, c) ∷ xs) h = no_lower old new xs h
-no_lower old new ((FindsDead f, c) ∷ xs) h = no_lower old new xs h
-no_lower old new ((StartsCheckpoint, c) ∷ xs) h = no_lower old new xs h
-no_lower old new ((EndsCheckpoint, c) ∷ xs) h = no_lower old new xs h
-no_lower old new ((Meets why, c) ∷ xs) h = no_lower old new xs h
+no_lower old new (_ ∷ xs) h = no_lower old new xs h
 
 Rises : ℕ → ℕ → ℕ → Type 0
 Rises old new n = (old < n) × (n ≤ new)

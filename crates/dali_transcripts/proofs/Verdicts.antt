@@ -4,9 +4,9 @@ use Rattle.std.specs.Prelude.{slice_get, take, drop, not}
 use Rattle.std.specs.List.{list_all}
 use Rattle.dali_lists.proofs.Tests.{left_true, right_true}
 use Rattle.dali_counts.proofs.Lists.{some_same}
-use Rattle.dali_record.specs.declared.records.Record.TheVariants.{AuditClean, AuditFail}
+use Rattle.dali_record.specs.declared.records.Record.TheVariants.{Forward, AuditClean, AuditFail}
 use Rattle.dali_system.specs.Steps.{audit_record}
-use Rattle.dali_transcripts.specs.World.{Logs, Happening}
+use Rattle.dali_transcripts.specs.World.{Logs, DiesOn, Happening}
 
 abbrev pub is_end : Happening → Bool
 is_end (Logs (AuditClean b), c) = true
@@ -73,3 +73,16 @@ begin_is xs n b c found x is e = sym (begun_by b c found) ∙ ap begun_in (some_
 
 pub found_is : (xs : List Happening) (n b c : ℕ) (found : List ℕ) (x : Happening) → slice_get xs n ≡ Some x → slice_get xs n ≡ Some (Logs (audit_record b found), c) → found ≡ named_in x
 found_is xs n b c found x is e = sym (named_by b c found) ∙ ap named_in (some_same (sym e ∙ is))
+
+-- ---- operations, and deaths in one
+abbrev pub is_operation : Happening → Bool
+is_operation (Logs (Forward t b), c) = true
+is_operation x = false
+
+abbrev pub is_death : Happening → Bool
+is_death (DiesOn t r, c) = true
+is_death x = false
+
+abbrev pub region_in : Happening → ℕ
+region_in (Logs (Forward t b), c) = b.region
+region_in x = 0

@@ -28,7 +28,7 @@ use Rattle.dali_transcripts.specs.Worked.{look, put, add, look_again, free_entry
 use Rattle.dali_transcripts.proofs.Backs.{none_stays}
 use Rattle.dali_transcripts.proofs.Verdicts.{none_ends}
 use Rattle.dali_transcripts.proofs.Locked.{keeps_locks}
-use Rattle.dali_transcripts.proofs.Ends.{grew_from, no_row, all_ended, told_locks, all_freed, none_in_the_way, none_claimed, none_failed, not_live, strays_same}
+use Rattle.dali_transcripts.proofs.Ends.{grew_from, no_row, told_locks, none_in_the_way, none_claimed, none_failed, neither_live, strays_same, above_three, whole_round, ended_together}
 
 -- ---- client 1
 work_1 : List Receipt
@@ -227,9 +227,7 @@ no_verdict : VerdictsTell world
 no_verdict i b c found e = absurd (none_ends happened i b c found refl e)
 
 holds : (r : ℕ) (g : RegionState) → slice_get world.core.regions r ≡ Some g → IsLive g → ⊥
-holds zero g e live = not_live _ g (some_same e) refl live
-holds (suc zero) g e live = not_live _ g (some_same e) refl live
-holds (suc (suc r)) g e live = absurd (cc)
+holds = neither_live (loaded index_words) (loaded heap_words) refl refl
 
 -- all transactions have ended
 ended : (t : ℕ) → fold (state_step t) None happened ≡ None
@@ -237,10 +235,7 @@ ended zero = refl
 ended (suc zero) = refl
 ended (suc (suc zero)) = refl
 ended (suc (suc (suc zero))) = refl
-ended (suc (suc (suc (suc t)))) =
-    let a : (1 == suc (suc (suc (suc t)))) ≡ false = ne_eqb 1 (suc (suc (suc (suc t)))) (λ e. absurd (omega (arith, e))) in
-    let b : (2 == suc (suc (suc (suc t)))) ≡ false = ne_eqb 2 (suc (suc (suc (suc t)))) (λ e. absurd (omega (arith, e))) in
-    let d : (3 == suc (suc (suc (suc t)))) ≡ false = ne_eqb 3 (suc (suc (suc (suc t)))) (λ e. absurd (omega (arith, e))) in rw (a, b, d) refl
+ended (suc (suc (suc (suc t)))) = let apart = above_three t in rw (apart.0, apart.1, apart.2) refl
 
 -- and their locks are free
 freed : (t k : ℕ) → fold (lock_step t k) None happened ≡ None
@@ -248,10 +243,7 @@ freed zero k = refl
 freed (suc zero) k = refl
 freed (suc (suc zero)) k = refl
 freed (suc (suc (suc zero))) k = refl
-freed (suc (suc (suc (suc t)))) k =
-    let a : (1 == suc (suc (suc (suc t)))) ≡ false = ne_eqb 1 (suc (suc (suc (suc t)))) (λ e. absurd (omega (arith, e))) in
-    let b : (2 == suc (suc (suc (suc t)))) ≡ false = ne_eqb 2 (suc (suc (suc (suc t)))) (λ e. absurd (omega (arith, e))) in
-    let d : (3 == suc (suc (suc (suc t)))) ≡ false = ne_eqb 3 (suc (suc (suc (suc t)))) (λ e. absurd (omega (arith, e))) in rw (a, b, d) refl
+freed (suc (suc (suc (suc t)))) k = let apart = above_three t in rw (apart.0, apart.1, apart.2) refl
 
 -- as the dead one's was when client 2 got it
 freed_then : (t : ℕ) → fold (lock_step t 5) None (take 18 happened) ≡ None
@@ -285,31 +277,10 @@ unfolding transcripts died_1 told moves_1 moves_2
 conflict_runs = record {
   lines = lines_1 ∷ lines_2 ∷ [];
   receipts = receipts_1 ∷ receipts_2 ∷ [];
-  round = record {
-    world = world;
-    old_is = refl;
-    before_is = refl;
-    precheck_is = refl;
-    core_is = refl;
-    grew = grew_from world refl refl refl refl refl (omega arith);
-    log = refl;
-    transcripts = transcripts;
-    receipts_are = refl;
-    right = (refl, (refl, ((refl, refl, free_1), (refl, (refl, (refl, (refl, ((refl, refl, refl, hindered_2), ((refl, refl, free_again), (refl, (tt, (refl, (refl, ((refl, refl, refl), (refl, (tt, (tt, (refl, ((refl, refl, free_3), (refl, (refl, (refl, (refl, (refl, (refl, tt)))))))))))))))))))))))));
-    together = record {
-      spans = tt;
-      anchors = refl;
-      pokes = no_stray;
-      verdicts = no_verdict;
-      states = all_ended world refl refl ended;
-      locks = all_freed world refl freed;
-      faults = none_failed world refl refl refl refl refl;
-      refusals = refl;
-      room = refl;
-      prechecks = λ yes. let no : false ≡ true = yes in absurd (cc);
-    };
-    rests = rests;
-    between = λ whole. between;
-  };
+  round =
+      whole_round world _ _ _ _ refl (grew_from world refl refl refl refl refl (omega arith)) refl transcripts refl
+      (refl, (refl, ((refl, refl, free_1), (refl, (refl, (refl, (refl, ((refl, refl, refl, hindered_2), ((refl, refl, free_again), (refl, (tt, (refl, (refl, ((refl, refl, refl), (refl, (tt, (tt, (refl, ((refl, refl, free_3), (refl, (refl, (refl, (refl, (refl, (refl, tt)))))))))))))))))))))))))
+      (ended_together world tt refl no_stray no_verdict refl refl refl ended freed (none_failed world refl refl refl refl refl) refl refl refl)
+      rests between;
   printed_is = refl;
 }

@@ -28,7 +28,7 @@ use Rattle.dali_record.specs.Epochs.{last_epoch}
 use Rattle.dali_record.specs.Spelling.{record_length}
 use Rattle.dali_record.specs.Blocks.{pending}
 use Rattle.dali_transcripts.specs.World.{Deed, Logs, Claims, GivesBack, GetsLock, Yields, MovesAnchor, Meets, Happening, World, record_of, logged_by, log_of, log_at, HasDone, lock_at, IsNoWeaker, state_after, state_at, is_dead_in, has_failed, cause_of, stop_at, stray_after, refused_by}
-use Rattle.dali_transcripts.specs.Moves.{Receipt, TakenBack, LeftBehind, Move, Begins, BeginsAgain, IsRefusedBegin, Skips, Rests, Answers, IsRefusedCall, Dies, IsArmed, GivesWay, GivesUp, Commits, CommitFails, IsRefusedCommit, Aborts, IsRefusedAbort, Ends, StaysOpen, Pokes, PokesNothing, Audits, IsRefusedAudit, Checkpoints, FailsCheckpoint, IsRefusedCheckpoint, said as says, own as does}
+use Rattle.dali_transcripts.specs.Moves.{Receipt, TakenBack, Move, IsRefusedCall, GivesWay, said as says, own as does}
 use Rattle.dali_transcripts.specs.Causes.{IsDamaged, MetCause, IsRight, AreRightFrom, AreRight, IsAsking, AreAsking, IsTried, AreTried, WasGranted, undos_behind, spares, IsUnanswered, IsTurnedBack, IsGivingWay, HasCause}
 use Rattle.dali_transcripts.specs.Transcripts.{IsTranscript, line_told, lines_of_records}
 use Rattle.dali_transcripts.specs.Table.{Tells, TellsRefused}
@@ -153,31 +153,8 @@ kept w c (IsRefusedCall u tries cs d s xs k ys other why rest) call t n m end li
     let same : (t == u) ≡ true = ap (λ z. t == z) (sym own) ∙ self t in
     let some : pending (put 97 0) (UndoCell 1) ∷ [] ≡ [] = subst (λ (z : Bool). (if z then pending (put 97 0) (UndoCell 1) ∷ [] else []) ≡ []) same left in
     absurd (cc)
-kept w c (Begins u k rest) call t n m end limit e is h = absurd (cc)
-kept w c (BeginsAgain u k tries held rest) call t n m end limit e is h = absurd (cc)
-kept w c (IsRefusedBegin place s k why rest) call t n m end limit e is h = absurd (cc)
-kept w c (Skips s act rest) call t n m end limit e is h = absurd (cc)
-kept w c (Rests u act rest) call t n m end limit e is h = absurd (cc)
-kept w c (Answers u tries cs d xs k other a rest) call t n m end limit e is h = absurd (cc)
-kept w c (Dies u tries cs d xs k r other rest) call t n m end limit e is h = absurd (cc)
-kept w c (IsArmed u tries cs d s count rest) call t n m end limit e is h = absurd (cc)
 kept w c (GivesWay u tries cs d xs other f ys (TakenBack k) rest) call t n m end limit e is h = absurd (cc)
-kept w c (GivesWay u tries cs d xs other f ys (LeftBehind k z) rest) call t n m end limit e is h = absurd (cc)
-kept w c (GivesUp u tries cs d xs other f ys ending rest) call t n m end limit e is h = absurd (cc)
-kept w c (Commits u tries cs d k xs rest) call t n m end limit e is h = absurd (cc)
-kept w c (CommitFails u tries cs d k i why rest) call t n m end limit e is h = absurd (cc)
-kept w c (IsRefusedCommit u tries cs d s k why rest) call t n m end limit e is h = absurd (cc)
-kept w c (Aborts u tries cs d xs k rest) call t n m end limit e is h = absurd (cc)
-kept w c (IsRefusedAbort u tries cs d s xs k why rest) call t n m end limit e is h = absurd (cc)
-kept w c (Ends u tries cs d xs k) call t n m end limit e is h = absurd (cc)
-kept w c (StaysOpen u tries cs d s xs k z) call t n m end limit e is h = absurd (cc)
-kept w c (Pokes s k r word i rest) call t n m end limit e is h = absurd (cc)
-kept w c (PokesNothing s r word i rest) call t n m end limit e is h = absurd (cc)
-kept w c (Audits b k rs failed rest) call t n m end limit e is h = absurd (cc)
-kept w c (IsRefusedAudit s xs k why rest) call t n m end limit e is h = absurd (cc)
-kept w c (Checkpoints since b k i until current rest) call t n m end limit e is h = absurd (cc)
-kept w c (FailsCheckpoint since b k until r rs failed rest) call t n m end limit e is h = absurd (cc)
-kept w c (IsRefusedCheckpoint s span late xs k why rest) call t n m end limit e is h = absurd (cc)
+kept w c _ call t n m end limit e is h = absurd (cc)
 
 -- what was there before is taken back too
 more_back : (t : ℕ) (p : Pending) → (if t == t then [] else p ∷ []) ≡ p ∷ [] → ⊥

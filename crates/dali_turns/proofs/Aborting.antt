@@ -1,5 +1,5 @@
 -- A transaction that is taken back as its client is told, at the end of its block, or since an older one holds the key of its call.
-use Rattle.std.proofs.Common.{◌≡◌, ℕ, ◌+◌, ◌<◌, Bool, true, false, List, [], ◌∷◌, ◌++◌, length, map, Option, None, is_some, refl, ap, sym, subst, ◌∙◌, inl, inr}
+use Rattle.std.proofs.Common.{◌≡◌, ℕ, ◌+◌, ◌<◌, Bool, true, false, List, [], ◌∷◌, ◌++◌, length, map, Option, None, refl, ap, sym, subst, ◌∙◌, inl, inr}
 use Rattle.std.proofs.lemmas.List.{append_assoc}
 use Rattle.dali_record.specs.declared.records.Record.{Record}
 use Rattle.dali_record.specs.declared.records.Record.TheVariants.{Ended}
@@ -23,12 +23,12 @@ use Rattle.dali_turns.specs.declared.client.State.{State}
 use Rattle.dali_turns.specs.declared.client.State.TheVariants.{Outside, Within, Waiting}
 use Rattle.dali_turns.specs.declared.client.Transaction.{Transaction}
 use Rattle.dali_turns.specs.Stood.{Stood}
-use Rattle.dali_turns.specs.Outside.{MaySay}
 use Rattle.dali_turns.specs.Within.{AreSoFar, FitsWithin, FitsYielding}
 use Rattle.dali_turns.specs.Fits.{rest_of, lines_of, IsOf, Fits}
 use Rattle.dali_turns.specs.Goes.{Went}
+use Rattle.dali_turns.proofs.Refusals.{says_none}
 use Rattle.dali_turns.proofs.Rows.{had_row}
-use Rattle.dali_turns.proofs.Doing.{ended, went_on, went_by, went_silent}
+use Rattle.dali_turns.proofs.Doing.{ended, outside_by, went_on, went_by, went_silent}
 use Rattle.dali_turns.proofs.Closing.{GoesBack, GoesAway}
 use Rattle.dali_rounds.specs.Went.{is_open}
 
@@ -52,11 +52,7 @@ module _ {V : Type 0} (told : V → Option Disk) (may_leave : V → Disk → Typ
     -- it has said nothing of a stop
     module _ (runs : y.stop ≡ None) where
       not_said : fits.said ≡ false
-      not_said = by_said fits.said fits.may
-        where
-          by_said : (b : Bool) → MaySay p.core.system b → b ≡ false
-          by_said false may = refl
-          by_said true may = let some : is_some p.core.system.stop ≡ true = may refl in let none : is_some p.core.system.stop ≡ false = ap (λ (m : SystemState). is_some m.stop) stood.stands.at.system ∙ ap is_some runs in let no : true ≡ false = sym some ∙ none in absurd (cc)
+      not_said = says_none p.core.system fits.said fits.may (ap (λ (m : SystemState). m.stop) stood.stands.at.system ∙ runs)
 
       spot_is : (rest : List Act) → rest_of k ≡ rest → a.spot ≡ at (IsWithin x.txn x.tries (map act_of x.commands.now) x.deadly false) rest
       spot_is rest next = fits.spot ∙ (ap (λ b. at (IsWithin x.txn x.tries (map act_of x.commands.now) x.deadly b) (rest_of k)) not_said ∙ ap (at (IsWithin x.txn x.tries (map act_of x.commands.now) x.deadly false)) next)
@@ -80,13 +76,7 @@ module _ {V : Type 0} (told : V → Option Disk) (may_leave : V → Disk → Typ
           closed : j.transcript.client ≡ k.transcript.client → lines_of j ≡ lines_of k ++ said m → rest_of j ≡ more → j.state ≡ Outside → Went told may_leave faults precheck s B p w a (Within x) gs y v true j hs z v
           closed client lines rest state =
               went_by told may_leave faults precheck s B B p q w a (Within x) gs hs y z v v deeds k j is away.did m starts own_was caused client lines
-              (subst (λ (n : State). Fits told may_leave faults s B q late hs z v (ended a m) (rest_of j) n) (sym state) (record {
-                said = false;
-                may = λ e. absurd (cc);
-                spot = ends ∙ ap (at (IsOutside false)) (sym rest);
-                none = refl;
-                placed = subst (IsPlaced false) (sym rest) placed;
-              }))
+              (subst (λ (n : State). Fits told may_leave faults s B q late hs z v (ended a m) (rest_of j) n) (sym state) (outside_by z a m false more (rest_of j) rest (λ e. absurd (cc)) ends placed))
               (λ up u lives. inr (rows u lives))
 
           closed_unsaid : j.transcript ≡ k.transcript → Went told may_leave faults precheck s B p w a (Within x) gs y v false j hs z v
@@ -218,13 +208,7 @@ module _ {V : Type 0} (told : V → Option Disk) (may_leave : V → Disk → Typ
             → Went told may_leave faults precheck s B p w a (Within x) gs y v true j hs z v
         gives_up client lines rest state =
             went_by told may_leave faults precheck s B B p q w a (Within x) gs hs y z v v given k j is away.did up yield_spot yield_own up_cause client (lines ∙ ap (λ n. lines_of k ++ IsBusy n ∷ Aborted ∷ []) (sym fits.holder_is))
-            (subst (λ (n : State). Fits told may_leave faults s B q behind_it hs z v (ended a up) (rest_of j) n) (sym state) (record {
-              said = false;
-              may = λ e. absurd (cc);
-              spot = ap (at (IsOutside false)) (sym rest_is);
-              none = refl;
-              placed = subst (IsPlaced false) (sym rest_is) (placed_behind fits.more (subst (IsPlaced true) fits.calls fits.placed).1);
-            }))
+            (subst (λ (n : State). Fits told may_leave faults s B q behind_it hs z v (ended a up) (rest_of j) n) (sym state) (outside_by z a up false (behind_close fits.more) (rest_of j) rest_is (λ e. absurd (cc)) refl (placed_behind fits.more (subst (IsPlaced true) fits.calls fits.placed).1)))
             (λ up u lives. inr (rows u lives))
           where
             rest_is : rest_of j ≡ behind_close fits.more

@@ -1,7 +1,6 @@
 -- What the rules of the log and the locks allow a plan next.
 use Rattle.std.proofs.Common.{◌≡◌, ℕ, ◌+◌, ◌^◌, ◌<◌, true, false, List, [], ◌∷◌, ◌++◌, Some, None, refl, ap, sym, subst, ◌∙◌, arith}
 use Rattle.std.specs.Prelude.{slice_get}
-use Rattle.std.proofs.lemmas.List.Elements.{recursion_from_All}
 use Rattle.std.proofs.lemmas.Option.{slice_get_within}
 use Rattle.dali_counts.proofs.Lists.{some_same}
 use Rattle.dali_geometry.specs.Places.{regions}
@@ -43,7 +42,7 @@ use Rattle.dali_turns.proofs.Operating.{op_of, onward_op, key_there}
 
 -- ---- the words of a region
 pub words_are : (bases : Bases) (L : List Record) (c : CoreState) (r : ℕ) (g : RegionState) → RunsOn bases L c → slice_get c.regions r ≡ Some g → AreWords g.words
-words_are bases L c r g runs at = let is = (runs.regions r g at).protected in (is.size, recursion_from_All (λ w. w < 2 ^ 64) g.words is.fits)
+words_are bases L c r g runs at = (runs.regions r g at).protected.words
 
 -- ---- the locks
 owns_it : (y : SystemState) (t : ℕ) (b : Block) (a : Touch) → holds y t b ≡ true → touch_of (Forward t b) ≡ Some a → holds y a.owner a.block ≡ true

@@ -19,14 +19,14 @@ use Rattle.dali_vault.specs.Vaulted.{Vaulted}
 use Rattle.dali_audit.specs.Findings.{Audited}
 use Rattle.dali_checkpoint.specs.Kept.{Checkpointed}
 use Rattle.dali_transcripts.specs.Words.{Act}
-use Rattle.dali_transcripts.specs.World.{Deed, Logs, Strays, DiesOn, Claims, GivesBack, GetsLock, Yields, FindsDead, StartsCheckpoint, MovesAnchor, EndsCheckpoint, Meets, Happening, World, record_of, logged_by, log_of, IsLogged, span_step, under_way}
+use Rattle.dali_transcripts.specs.World.{Deed, Logs, StartsCheckpoint, EndsCheckpoint, Happening, World, record_of, logged_by, log_of, IsLogged, span_step, under_way}
 use Rattle.dali_transcripts.specs.Moves.{Receipt}
 use Rattle.dali_transcripts.specs.Transcripts.{own_by, deeds_of}
 use Rattle.dali_transcripts.specs.Rounds.{Standing, Stands, by, AreSpans}
 use Rattle.dali_transcripts.proofs.Owned.{owned_by_one}
 use Rattle.dali_deeds.specs.Tells.{Goes}
 use Rattle.dali_turns.specs.declared.client.State.{State}
-use Rattle.dali_turns.specs.declared.client.State.TheVariants.{Within, Calling, TakingBack, Committing, Outside, LeftOut, Waiting, Auditing, Copying, Certifying, Gone}
+use Rattle.dali_turns.specs.declared.client.State.TheVariants.{Auditing, Copying, Certifying}
 use Rattle.dali_turns.specs.Stood.{Stood}
 use Rattle.dali_turns.specs.Audits.{IsPassing, FitsAuditing}
 use Rattle.dali_turns.specs.Checkpoints.{IsMaking, FitsCopying, FitsCertifying}
@@ -39,32 +39,14 @@ spans_behind : (o : Option ℕ) (xs ys : List Happening) → AreSpans o (xs ++ y
 spans_behind o [] ys h = h
 spans_behind o ((StartsCheckpoint, c) ∷ xs) ys h = spans_behind (Some c) xs ys h.1
 spans_behind o ((EndsCheckpoint, c) ∷ xs) ys h = spans_behind None xs ys h.1
-spans_behind o ((Logs x, c) ∷ xs) ys h = spans_behind o xs ys h
-spans_behind o ((Strays r word mask, c) ∷ xs) ys h = spans_behind o xs ys h
-spans_behind o ((DiesOn t r, c) ∷ xs) ys h = spans_behind o xs ys h
-spans_behind o ((Claims t, c) ∷ xs) ys h = spans_behind o xs ys h
-spans_behind o ((GivesBack t latched, c) ∷ xs) ys h = spans_behind o xs ys h
-spans_behind o ((Yields f, c) ∷ xs) ys h = spans_behind o xs ys h
-spans_behind o ((GetsLock t k m, c) ∷ xs) ys h = spans_behind o xs ys h
-spans_behind o ((FindsDead f, c) ∷ xs) ys h = spans_behind o xs ys h
-spans_behind o ((MovesAnchor n, c) ∷ xs) ys h = spans_behind o xs ys h
-spans_behind o ((Meets why, c) ∷ xs) ys h = spans_behind o xs ys h
+spans_behind o (_ ∷ xs) ys h = spans_behind o xs ys h
 
 -- deeds of another client don't end it
 spans_stay : (c d : ℕ) (ds : List Deed) → (c ≡ d → ⊥) → AreSpans (Some c) (by d ds) → fold span_step (Some c) (by d ds) ≡ Some c
 spans_stay c d [] other h = refl
 spans_stay c d (StartsCheckpoint ∷ ds) other h = let no : Some c ≡ None = h.0 in absurd (cc)
 spans_stay c d (EndsCheckpoint ∷ ds) other h = absurd (other (some_same h.0))
-spans_stay c d (Logs x ∷ ds) other h = spans_stay c d ds other h
-spans_stay c d (Strays r word mask ∷ ds) other h = spans_stay c d ds other h
-spans_stay c d (DiesOn t r ∷ ds) other h = spans_stay c d ds other h
-spans_stay c d (Claims t ∷ ds) other h = spans_stay c d ds other h
-spans_stay c d (GivesBack t latched ∷ ds) other h = spans_stay c d ds other h
-spans_stay c d (Yields f ∷ ds) other h = spans_stay c d ds other h
-spans_stay c d (GetsLock t k m ∷ ds) other h = spans_stay c d ds other h
-spans_stay c d (FindsDead f ∷ ds) other h = spans_stay c d ds other h
-spans_stay c d (MovesAnchor n ∷ ds) other h = spans_stay c d ds other h
-spans_stay c d (Meets why ∷ ds) other h = spans_stay c d ds other h
+spans_stay c d (_ ∷ ds) other h = spans_stay c d ds other h
 
 -- ---- the log goes on
 
@@ -93,15 +75,7 @@ module _ {V : Type 0} (told : V → Option Disk) (may_leave : V → Disk → Typ
       by_state : (st : State) → Fits told may_leave faults s B p w gs y v b (b.spot.rest) st → Audits st n → ⊥
       by_state (Auditing audit next) k same = at_begin audit.begin (pending_there w b ((audit.begin, Logs AuditBegin) ∷ []) (audit.begin, Logs AuditBegin) k.pending (0, omega arith, refl) theirs) same
       by_state (Certifying c audit next) k same = at_begin audit.begin (pending_there w b ((k.making.since, StartsCheckpoint) ∷ (audit.begin, Logs AuditBegin) ∷ []) (audit.begin, Logs AuditBegin) k.making.pending (1, omega arith, refl) theirs) same
-      by_state (Within t) k none = none
-      by_state (Calling t plan) k none = none
-      by_state (TakingBack t plan why) k none = none
-      by_state (Committing t number removals next) k none = none
-      by_state Outside k none = none
-      by_state LeftOut k none = none
-      by_state (Waiting tries holder) k none = none
-      by_state (Copying c next) k none = none
-      by_state Gone k none = none
+      by_state state k none = none
 
   logged_on : (n : ℕ) → IsLogged w n AuditBegin → IsLogged x n AuditBegin
   logged_on n at = subst (λ (l : World). IsLogged l n AuditBegin) (sym goes.is) (subst (λ l. slice_get l n ≡ Some AuditBegin) (sym (log_more w (by b.client ds))) (get_front (log_of w) (logged_by (by b.client ds)) n AuditBegin at))
@@ -137,15 +111,7 @@ module _ {V : Type 0} (told : V → Option Disk) (may_leave : V → Disk → Typ
       by_state : (st : State) → Fits told may_leave faults s B p w gs y v b (b.spot.rest) st → Makes st → ⊥
       by_state (Copying c next) k makes = not_both k.making.under
       by_state (Certifying c audit next) k makes = not_both k.making.under
-      by_state (Within t) k none = none
-      by_state (Calling t plan) k none = none
-      by_state (TakingBack t plan why) k none = none
-      by_state (Committing t number removals next) k none = none
-      by_state Outside k none = none
-      by_state LeftOut k none = none
-      by_state (Waiting tries holder) k none = none
-      by_state (Auditing audit next) k none = none
-      by_state Gone k none = none
+      by_state state k none = none
 
   image_there : p.core.system.checking ≡ true → under_way w.happened ≡ Some a.client → ImageStays told may_leave faults s B p gs y v C q hs z u
   image_there flag mine = leaves.image (ap (λ (m : SystemState). m.checking) (sym stood.stands.at.system) ∙ flag) (makes_none mine)

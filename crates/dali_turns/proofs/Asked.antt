@@ -53,7 +53,7 @@ use Rattle.dali_turns.specs.Fits.{rest_of, IsOf, Owns, Fits}
 use Rattle.dali_turns.specs.Goes.{RowsTell, Went}
 use Rattle.dali_turns.proofs.Returning.{turned_on, none_asked}
 use Rattle.dali_turns.proofs.Undoing.{undone_on}
-use Rattle.dali_turns.proofs.Refusals.{front, runs_there}
+use Rattle.dali_turns.proofs.Refusals.{front, runs_there, says_none}
 use Rattle.dali_turns.proofs.Locking.{got_more, weaker_shared}
 use Rattle.dali_turns.proofs.Doing.{Did, did_quietly, behind, went_on, vault_stops}
 use Rattle.dali_turns.proofs.Walking.{point_behind}
@@ -174,14 +174,7 @@ module _ {V : Type 0} (told : V → Option Disk) (may_leave : V → Disk → Typ
 
   -- it has said nothing of a stop, since the engine runs
   unsaid : fits.said ≡ false
-  unsaid = by_said fits.said refl
-    where
-      by_said : (b : Bool) → fits.said ≡ b → fits.said ≡ false
-      by_said true e =
-          let some : is_some p.core.system.stop ≡ true = fits.may e in
-          let none : is_some p.core.system.stop ≡ false = ap (λ (m : SystemState). is_some m.stop) stood.stands.at.system ∙ ap is_some runs in
-          let no : true ≡ false = sym some ∙ none in absurd (cc)
-      by_said false e = e
+  unsaid = says_none p.core.system fits.said fits.may (ap (λ (m : SystemState). m.stop) stood.stands.at.system ∙ runs)
 
   asking : AreAsking w a.client x.txn call a.pending
   asking = subst (λ rest. AreSoFar w a.client x.txn rest a.pending) next fits.so_far

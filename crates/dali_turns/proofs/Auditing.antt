@@ -55,9 +55,9 @@ use Rattle.dali_turns.specs.Outside.{FitsOutside}
 use Rattle.dali_turns.specs.Audits.{IsPassing, FitsAuditing}
 use Rattle.dali_turns.specs.Fits.{rest_of, lines_of, IsOf, Owns, Fits}
 use Rattle.dali_turns.specs.Goes.{RowsTell, Went}
-use Rattle.dali_turns.proofs.Refusals.{records_are, runs_on_log, HasCauseNow, met_now, right_now, full_audit, stop_now, runs_there, full_now, may_say_more}
+use Rattle.dali_turns.proofs.Refusals.{records_are, runs_on_log, HasCauseNow, met_now, right_now, full_audit, stop_now, runs_there, full_now, may_say_more, says_none}
 use Rattle.dali_turns.proofs.Passing.{passed, dead_checked, places_checked, passed_one}
-use Rattle.dali_turns.proofs.Doing.{vault_stops, Did, did_nothing, did_meet, did_quietly, behind, ended, went_on, went_by, went_silent}
+use Rattle.dali_turns.proofs.Doing.{vault_stops, Did, did_nothing, did_meet, did_quietly, behind, ended, outside_by, went_on, went_by, went_silent}
 use Rattle.dali_rounds.specs.Went.{is_open}
 
 get_same : {X : Type 0} (n r : ℕ) (x : X) → r < n → slice_get (replicate n x) r ≡ Some x
@@ -170,11 +170,7 @@ module _ {V : Type 0} (told : V → Option Disk) (may_leave : V → Disk → Typ
   module _ (fits : FitsOutside y a (rest_of k)) (more : List Act) (next : rest_of k ≡ AuditAct ∷ more) where
     module _ (stop : y.stop ≡ None) (room : y.end + 1 ≤ y.limit + 1048576) (audit : Audited) (begin : audit.begin ≡ y.records) (findings : audit.findings ≡ replicate (regions y.sizes) Waiting) (small : y.records < 2 ^ 64) (few : regions y.sizes < 2 ^ 32) where
       silent : fits.said ≡ false
-      silent = by_said fits.said refl
-        where
-          by_said : (b : Bool) → fits.said ≡ b → fits.said ≡ false
-          by_said true e = let some : is_some y.stop ≡ true = fits.may e in let none : is_some y.stop ≡ false = ap is_some stop in absurd (cc)
-          by_said false e = e
+      silent = says_none y fits.said fits.may stop
 
       abbrev here : World
       here = after w a.client (Logs AuditBegin ∷ []) (begun_point p).core
@@ -236,13 +232,7 @@ module _ {V : Type 0} (told : V → Option Disk) (may_leave : V → Disk → Typ
       pub refused_begin : j.transcript.client ≡ k.transcript.client → lines_of j ≡ lines_of k ++ Refused AuditAct r ∷ [] → rest_of j ≡ more → j.state ≡ Outside → Went told may_leave faults precheck s B p w a Outside gs y v true j gs y v
       refused_begin client lines rest state =
           went_by told may_leave faults precheck s B B p p w a Outside gs gs y y v v (Meets r ∷ []) k j is met_did move starts own_is (h.cut (after w a.client (Meets r ∷ []) p.core), met) client lines
-          (subst (λ (x : State). Fits told may_leave faults s B p (after w a.client (Meets r ∷ []) p.core) gs y v (ended a move) (rest_of j) x) (sym state) (record {
-            said = fits.said || is_stop r;
-            may = may_say_more y fits.said r fits.may h.stops;
-            spot = ap (at (IsOutside (fits.said || is_stop r))) (sym rest);
-            none = refl;
-            placed = subst (IsPlaced false) (sym rest) placed;
-          }))
+          (subst (λ (x : State). Fits told may_leave faults s B p (after w a.client (Meets r ∷ []) p.core) gs y v (ended a move) (rest_of j) x) (sym state) (outside_by y a move (fits.said || is_stop r) more (rest_of j) rest (may_say_more y fits.said r fits.may h.stops) refl placed))
           (rows_same Outside j.state y y refl (λ t none. none))
 
       pub silent_begin : j.transcript ≡ k.transcript → Went told may_leave faults precheck s B p w a Outside gs y v false j gs y v

@@ -1,5 +1,7 @@
 -- A commit that is logged waits for its flush: that is made, or fails, or the store had failed before.
 use Rattle.std.proofs.Common.{◌≡◌, ℕ, ◌+◌, ◌<◌, ◌≤◌, Bool, true, false, List, [], ◌∷◌, ◌++◌, length, map, Option, Some, None, is_some, refl, ap, sym, subst, ◌∙◌, ⊎_elim, arith}
+use Rattle.std.specs.Prelude.{not, nat_lt}
+use Rattle.std.proofs.lemmas.Bool.{ltb-false}
 use Rattle.std.proofs.lemmas.List.{append-nil}
 use Rattle.dali_record.specs.declared.operations.Pending.{Pending}
 use Rattle.dali_record.specs.declared.records.Record.{Record}
@@ -31,6 +33,13 @@ use Rattle.dali_turns.specs.Commits.{FitsCommitting}
 use Rattle.dali_turns.proofs.Refusals.{front, done_last, right_now, stop_now}
 use Rattle.dali_turns.proofs.Doing.{Did, vault_stops, did_meet}
 use Rattle.dali_turns.proofs.Flushing.{did_flush, did_fault}
+
+pub not_before : (n m : ℕ) → not (nat_lt n m) ≡ true → m ≤ n
+not_before n m e = by_test (nat_lt n m) refl e
+  where
+    by_test : (b : Bool) → nat_lt n m ≡ b → not b ≡ true → m ≤ n
+    by_test true less h = absurd (cc)
+    by_test false more h = ltb-false n m more
 
 module _ {V : Type 0} (told : V → Option Disk) (may_leave : V → Disk → Type 0) (faults : V → ℕ)
     (precheck : Bool) (s : Start) (B : List (List Record)) (p : Point) (w : World) (a : Standing) (gs : List RegionState) (y : SystemState) (v : Vaulted V) (st : State)

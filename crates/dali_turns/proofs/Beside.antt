@@ -30,7 +30,8 @@ use Rattle.dali_crash.specs.Traces.{Start}
 use Rattle.dali_crash.proofs.StoreRuns.{bare_store_course_keeps}
 use Rattle.dali_crash.proofs.Flags.{flag_changes}
 use Rattle.dali_vault.specs.Vaulted.{Vaulted}
-use Rattle.dali_stepwise.specs.Beside.{is_apart, LeavesBe}
+use Rattle.dali_calls.specs.Others.{is_apart}
+use Rattle.dali_stepwise.specs.Beside.{LeavesBe}
 use Rattle.dali_stepwise.proofs.Waiting.{each_leaves, further}
 use Rattle.dali_steps.specs.Courses.{is_quiet}
 use Rattle.dali_checkpoint.proofs.Audited.{audits_at}

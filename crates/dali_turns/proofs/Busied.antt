@@ -47,7 +47,7 @@ use Rattle.dali_turns.proofs.Asked.{same_key, same_mode}
 use Rattle.dali_turns.proofs.Locking.{still_got, others_on, got_lock, none_ended, clashing}
 use Rattle.dali_turns.proofs.Commands.{next_act, behind_next}
 use Rattle.dali_turns.proofs.Undoing.{undone_on}
-use Rattle.dali_turns.proofs.Refusals.{runs_on_log, records_are, front, log_there, done_last, runs_there}
+use Rattle.dali_turns.proofs.Refusals.{runs_on_log, records_are, front, log_there, done_last, runs_there, says_none}
 use Rattle.dali_turns.proofs.Doing.{Did, did_quietly, did_went, still_ran, behind, so_far, vault_stops}
 use Rattle.dali_turns.proofs.Walking.{point_behind}
 use Rattle.dali_turns.proofs.Asking.{new_plan, rest_now, core_there, asking}
@@ -109,14 +109,7 @@ module _ {V : Type 0} (told : V → Option Disk) (may_leave : V → Disk → Typ
 
   -- nothing was said of a stop
   unsaid : fits.said ≡ false
-  unsaid = by_said fits.said refl
-    where
-      by_said : (b : Bool) → fits.said ≡ b → fits.said ≡ false
-      by_said true e =
-          let some : is_some p.core.system.stop ≡ true = fits.may e in
-          let none : is_some p.core.system.stop ≡ false = ap is_some up in
-          let both : true ≡ false = sym some ∙ none in absurd (cc)
-      by_said false e = e
+  unsaid = says_none p.core.system fits.said fits.may up
 
   state_then : (deed : Deed) → state_at (after w a.client (deed ∷ []) there) (length w.happened) holder ≡ state_of y holder
   state_then deed =

@@ -21,7 +21,7 @@ use Rattle.dali_calls.specs.Steps.{answer_of}
 use Rattle.dali_single.specs.Stands.{core, IsAtRest, AtPlan}
 use Rattle.dali_single.specs.Single.{MayCall}
 use Rattle.dali_stepwise.specs.Stepwise.{AnswersNow}
-use Rattle.dali_transcripts.specs.Words.{Act, Begins, Calls, Arms, Commits, Aborts, Pokes, Audits, Checkpoints}
+use Rattle.dali_transcripts.specs.Words.{Act, Calls}
 use Rattle.dali_transcripts.specs.World.{Deed, Logs, World, logged_by, log_of}
 use Rattle.dali_transcripts.specs.Moves.{Within as IsWithin, at, Move, Answers, operations, left}
 use Rattle.dali_transcripts.specs.Causes.{HasCause, spares}
@@ -66,14 +66,7 @@ behind_one (c ∷ cs) ys x more is same = ap (map act_of) same ∙ ap tail_of is
 -- nothing is done of what comes next
 pub none_so_far : (w : World) (c t : ℕ) (rest : List Act) → AreSoFar w c t rest []
 none_so_far w c t (Calls call ∷ rest) = tt
-none_so_far w c t [] = refl
-none_so_far w c t (Begins ∷ rest) = refl
-none_so_far w c t (Arms n ∷ rest) = refl
-none_so_far w c t (Commits ∷ rest) = refl
-none_so_far w c t (Aborts ∷ rest) = refl
-none_so_far w c t (Pokes r i m ∷ rest) = refl
-none_so_far w c t (Audits ∷ rest) = refl
-none_so_far w c t (Checkpoints ∷ rest) = refl
+none_so_far w c t _ = refl
 
 -- who was spared so far is spared in what comes next
 pub due_left : (d : Option ℕ) (n : ℕ) → spares d n ≡ true → spares (left d n) 0 ≡ true

@@ -45,10 +45,10 @@ use Rattle.dali_turns.specs.Goes.{Went}
 use Rattle.dali_turns.proofs.Auditing.{rows_same}
 use Rattle.dali_turns.proofs.Passing.{passed, dead_checked, places_checked, passed_one}
 use Rattle.dali_turns.proofs.Beside.{step_image, course_longer}
-use Rattle.dali_turns.proofs.Doing.{Did, did_quietly, did_then, behind, ended, went_on, went_by, went_silent}
+use Rattle.dali_turns.proofs.Doing.{Did, did_quietly, did_then, behind, ended, outside_by, went_on, went_by, went_silent}
 use Rattle.dali_turns.proofs.Coursing.{did_course}
 use Rattle.dali_turns.proofs.Ending.{ended_point, end_step, did_end, vault_is, end_number}
-use Rattle.dali_turns.proofs.Starting.{under_then}
+use Rattle.dali_turns.proofs.Starting.{making_on, under_then}
 
 module _ {V : Type 0} (told : V → Option Disk) (may_leave : V → Disk → Type 0) (faults : V → ℕ)
     (precheck : Bool) (s : Start) (B : List (List Record)) (p : Point) (w : World) (a : Standing) (gs : List RegionState) (y : SystemState) (v : Vaulted V) (k j : Client)
@@ -105,16 +105,7 @@ module _ {V : Type 0} (told : V → Option Disk) (may_leave : V → Disk → Typ
     certify_passes same rest now =
         went_on told may_leave faults precheck s B B p q w a state gs (slice_set gs next (checked g)) y y v v [] k j is did true same
         (subst (λ (x : State). Fits told may_leave faults s B q (after w a.client [] q.core) (slice_set gs next (checked g)) y v (behind a w []) (rest_of j) x) (sym now) (record {
-          making = record {
-            more = fits.making.more;
-            makes = rest ∙ fits.making.makes;
-            spot = fits.making.spot ∙ ap (at (IsOutside false)) (sym rest);
-            since = fits.making.since;
-            pending = ap (λ xs. xs ++ []) fits.making.pending;
-            placed = subst (IsPlaced false) (sym rest) fits.making.placed;
-            flag = fits.making.flag;
-            under = under_then w a.client [] q.core ∙ fits.making.under;
-          };
+          making = making_on p q w a (rest_of k) (rest_of j) ((audit.begin, Logs AuditBegin) ∷ []) fits.making rest fits.making.flag;
           head = fits.head;
           number = fits.number;
           settled = λ runs. subst (λ (rs : List RegionState). IsSettled told may_leave faults s B q rs y v c fits.head fits.number) regions_there
@@ -261,13 +252,7 @@ module _ {V : Type 0} (told : V → Option Disk) (may_leave : V → Disk → Typ
       pub makes : j.transcript.client ≡ k.transcript.client → lines_of j ≡ lines_of k ++ CheckpointSaid (v.current + 1) ∷ [] → rest_of j ≡ fits.making.more → j.state ≡ Outside → Went told may_leave faults precheck s B p w a state gs y v true j gs x u
       makes client lines rest now =
           went_by told may_leave faults precheck s B t.batches p t.to w a state gs gs y x v u ds k j is whole move starts own_is flushed client lines
-          (subst (λ (m : State). Fits told may_leave faults s t.batches t.to (after w a.client ds t.to.core) gs x u (ended a move) (rest_of j) m) (sym now) (record {
-            said = false;
-            may = λ e. absurd (cc);
-            spot = ap (at (IsOutside false)) (sym rest);
-            none = refl;
-            placed = subst (IsPlaced false) (sym rest) placed;
-          }))
+          (subst (λ (m : State). Fits told may_leave faults s t.batches t.to (after w a.client ds t.to.core) gs x u (ended a move) (rest_of j) m) (sym now) (outside_by x a move false fits.making.more (rest_of j) rest (λ e. absurd (cc)) refl placed))
           (rows_same state j.state y x refl (λ n none. none))
 
       pub makes_silent : j.transcript ≡ k.transcript → Went told may_leave faults precheck s B p w a state gs y v false j gs x u

@@ -23,11 +23,12 @@ use Rattle.dali_system.specs.Courses.{Step, TakesBack, Ends, OnRegion, Claims, G
 use Rattle.dali_crash.specs.Checkpoints.{Does, Point, IsPointStep, IsPointCourse}
 use Rattle.dali_crash.specs.Traces.{Start, bases_of}
 use Rattle.dali_vault.specs.Vaulted.{Vaulted}
+use Rattle.dali_calls.specs.Others.{IsGone}
+use Rattle.dali_calls.proofs.Operating.{held_of}
 use Rattle.dali_single.proofs.Lists.{all_both}
 use Rattle.dali_clean.specs.Steps.{AreBack, recovers}
 use Rattle.dali_clean.specs.Cleaned.{AreDead, IsDead, Ends as EndsTxn, GivesBack as LeavesTxn}
-use Rattle.dali_clean.specs.Others.{OthersStay, IsGone}
-use Rattle.dali_clean.proofs.Courses.{held_of}
+use Rattle.dali_clean.specs.Others.{OthersStay}
 use Rattle.dali_stepwise.specs.Beside.{LeavesBe}
 use Rattle.dali_ends.specs.Ended.{AreOfEnd}
 use Rattle.dali_rounds.specs.Went.{Went as GoneOn}

@@ -1,7 +1,5 @@
 -- A crash inside the flush of a commit, and behind it.
-use Rattle.std.proofs.Common.{◌≡◌, ℕ, ◌+◌, ◌<◌, ◌≤◌, Bool, true, false, not, List, [], ◌++◌, Option, Some, None, is_some, refl, ap, sym, subst, ◌∙◌, inl, inr, ⊎_elim, arith}
-use Rattle.std.specs.Prelude.{nat_lt}
-use Rattle.std.proofs.lemmas.Bool.{ltb-false}
+use Rattle.std.proofs.Common.{◌≡◌, ℕ, ◌+◌, ◌<◌, Bool, true, false, List, [], ◌++◌, Option, refl, ap, sym, subst, ◌∙◌, inl, inr, ⊎_elim, arith}
 use Rattle.std.proofs.lemmas.List.{append-nil}
 use Rattle.dali_record.specs.declared.records.Record.{Record}
 use Rattle.dali_region.specs.State.{RegionState}
@@ -10,9 +8,10 @@ use Rattle.dali_system.specs.State.{SystemState, log_after}
 use Rattle.dali_crash.specs.Checkpoints.{Point}
 use Rattle.dali_crash.specs.Traces.{Start}
 use Rattle.dali_vault.specs.Vaulted.{Vaulted}
-use Rattle.dali_whole.specs.Cores.{NoShorter, IsNoShorter}
+use Rattle.dali_whole.specs.Cores.{IsNoShorter}
 use Rattle.dali_whole.specs.Moments.{Within, FlushLeaves}
 use Rattle.dali_whole.proofs.Moments.{leaves_more, leaves_both}
+use Rattle.dali_whole.proofs.Lengths.{no_shorter_tells}
 use Rattle.dali_checkpoint.proofs.Moments.{each_told, there, no_call, more_left}
 use Rattle.dali_checkpoint.proofs.Calls.{course_join}
 use Rattle.dali_transcripts.specs.World.{World}
@@ -27,7 +26,7 @@ use Rattle.dali_turns.specs.Fits.{rest_of, Fits}
 use Rattle.dali_turns.specs.Goes.{StepGoes, Came, Went}
 use Rattle.dali_turns.specs.Moments.{Extends, LeavesInStep, LeavesUpTo, LeavesHere, StepLeavesRight, TurnLeavesRight, HaltLeavesRight}
 use Rattle.dali_turns.specs.Places.{KeepsRegions}
-use Rattle.dali_turns.proofs.Awaiting.{stable_is}
+use Rattle.dali_turns.proofs.Awaiting.{not_before, stable_is}
 use Rattle.dali_turns.proofs.Lefts.{flush_leaves}
 use Rattle.dali_turns.proofs.Turning.{LooksSame, is_same, fits_same}
 use Rattle.dali_turns.proofs.Moments.{course_log, crash_right, leaves_still, leaves_by, up_to}
@@ -59,18 +58,6 @@ module _ {V : Type 0} (told : V → Option Disk) (may_leave : V → Disk → Typ
         by_stop false e = λ precheck s B p w a stood is fits. leaves_by told may_leave faults moment left_since state k gs y z v u (FlushLeaves may_leave y v) (within e) s p (flush_leaves told may_leave faults s B p gs y v stood.stands.at e)
 
 -- ---- a client that is halted behind its step
-not_before : (n m : ℕ) → not (nat_lt n m) ≡ true → m ≤ n
-not_before n m e = by_test (nat_lt n m) refl e
-  where
-    by_test : (b : Bool) → nat_lt n m ≡ b → not b ≡ true → m ≤ n
-    by_test true less h = absurd (cc)
-    by_test false more h = ltb-false n m more
-
-tells_on : (o p : Option Disk) → NoShorter o p → is_some o ≡ true → is_some p ≡ true
-tells_on (Some a) (Some b) longer e = refl
-tells_on (Some a) None longer e = absurd longer
-tells_on None p longer e = absurd (cc)
-
 module _ {V : Type 0} (told : V → Option Disk) (may_leave : V → Disk → Type 0) (faults : V → ℕ) (moment : V → ℕ) (left_since : V → ℕ → Disk → Type 0) where
   -- a commit that waits for its flush wrote no region in its step
   kept_then : (precheck : Bool) (s : Start) (B : List (List Record)) (q : Point) (w : World) (a : Standing) (gs hs : List RegionState) (z : SystemState) (u : Vaulted V) (rest : List Act) (st : State)
@@ -134,4 +121,4 @@ module _ {V : Type 0} (told : V → Option Disk) (may_leave : V → Disk → Typ
       by_test : (b : Bool) → awaits_flush behind.state z u ≡ b → Within told moment left_since v t (LeavesUpTo s p gs x)
       by_test false e = subst (λ (r : Vaulted V). Within told moment left_since v r (LeavesUpTo s p gs x)) (sym (still e)) (more_left told may_leave faults moment left_since v u (LeavesInStep s p gs z) (LeavesUpTo s p gs x) first left)
       by_test true e = each_told (told v.store) _ (λ is_told. leaves_both moment left_since v.store u.store t.store (LeavesInStep s p gs z) (LeavesHere s went.to hs) (LeavesUpTo s p gs x) first (last e)
-          (there (told v.store) _ is_told left) (there (told u.store) _ (tells_on (told v.store) (told u.store) longer is_told) (halts precheck s went.batches went.to went.world went.stood)))
+          (there (told v.store) _ is_told left) (there (told u.store) _ (no_shorter_tells (told v.store) (told u.store) longer ∙ is_told) (halts precheck s went.batches went.to went.world went.stood)))

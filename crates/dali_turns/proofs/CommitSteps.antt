@@ -3,6 +3,7 @@ use Rattle.std.proofs.Common.{◌≡◌, ℕ, zero, suc, ◌+◌, ◌<◌, ◌�
 use Rattle.std.specs.Prelude.{slice_get}
 use Rattle.std.specs.List.{AllByRecursion}
 use Rattle.std.proofs.lemmas.List.{append-nil}
+use Rattle.dali_calls.proofs.Others.{ended_gone}
 use Rattle.dali_single.proofs.Lists.{all_both}
 use Rattle.dali_record.specs.declared.operations.Pending.{Pending}
 use Rattle.dali_record.specs.declared.records.Record.{Record}
@@ -22,7 +23,7 @@ use Rattle.dali_vault.specs.declared.error.VaultError.TheVariants.{Stopped as Va
 use Rattle.dali_facts.specs.Ends.{IsEnding}
 use Rattle.dali_single.specs.Settling.{IsSoloOf}
 use Rattle.dali_clean.specs.Others.{OthersStay}
-use Rattle.dali_clean.proofs.Others.{ended_others, ended_gone}
+use Rattle.dali_clean.proofs.Others.{ended_others}
 use Rattle.dali_whole.specs.Cores.{IsWholeCore}
 use Rattle.dali_whole.specs.Flushed.{FlushesAll, FlushFails}
 use Rattle.dali_ends.specs.Ended.{Comes}
@@ -97,10 +98,6 @@ module _ {V : Type 0} (told : V → Option Disk) (may_leave : V → Disk → Typ
         subst (λ (rs : List RegionState). StepGoes told may_leave faults precheck (Within x) k gs y v true j rs z u) (sym regions)
         (subst (λ (m : SystemState). StepGoes told may_leave faults precheck (Within x) k gs y v true j gs m u) (sym system)
         (subst (λ (t : Vaulted V). StepGoes told may_leave faults precheck (Within x) k gs y v true j gs (commit_logged y x.txn) t) (sym vault) here_goes))
-
-pub none_there : {X : Type 0} (o : Option X) → is_some o ≡ false → o ≡ None
-none_there None e = refl
-none_there (Some x) e = absurd (cc)
 
 -- what a record leaves to others, by the call's clauses
 pub others_there : (gs hs : List RegionState) (y z m : SystemState) (t : ℕ) → hs ≡ gs → z ≡ m → OthersStay gs y t hs z → OthersStay gs y t gs m

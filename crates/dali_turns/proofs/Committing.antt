@@ -38,13 +38,12 @@ use Rattle.dali_turns.specs.declared.client.State.{State}
 use Rattle.dali_turns.specs.declared.client.State.TheVariants.{Outside, Within}
 use Rattle.dali_turns.specs.declared.client.Transaction.{Transaction}
 use Rattle.dali_turns.specs.Stood.{Stood}
-use Rattle.dali_turns.specs.Outside.{MaySay}
 use Rattle.dali_turns.specs.Within.{AreSoFar, FitsWithin}
 use Rattle.dali_turns.specs.Fits.{rest_of, lines_of, IsOf, Owns, Fits}
 use Rattle.dali_turns.specs.Goes.{Went}
 use Rattle.dali_turns.proofs.Beside.{is_out_of}
-use Rattle.dali_turns.proofs.Refusals.{runs_there}
-use Rattle.dali_turns.proofs.Doing.{Did, vault_stops, ended, went_by, went_silent}
+use Rattle.dali_turns.proofs.Refusals.{runs_there, says_none}
+use Rattle.dali_turns.proofs.Doing.{Did, vault_stops, ended, outside_by, went_by, went_silent}
 use Rattle.dali_turns.proofs.Flushing.{has_stop}
 use Rattle.dali_turns.proofs.Sides.{At, InHand, Sided, AreSolos, sided, one_goes, at_next, state_then, receipts_then, course_split, courses_told, logged_is, solos_sides, behinds_of, ended_right}
 use Rattle.dali_turns.proofs.Along.{end_out, out_both}
@@ -123,11 +122,7 @@ module _ {V : Type 0} (told : V → Option Disk) (may_leave : V → Disk → Typ
     (precheck : Bool) (s : Start) (B : List (List Record)) (p : Point) (w : World) (a : Standing) (gs : List RegionState) (y : SystemState) (v : Vaulted V) (k j : Client) (x : Transaction)
     (stood : Stood told may_leave faults s B p w precheck gs y v) (is : IsOf w a k) (fits : FitsWithin p w a (rest_of k) x) (runs : y.stop ≡ None) (more : List Act) (next : rest_of k ≡ CommitAct ∷ more) where
   not_said : fits.said ≡ false
-  not_said = by_said fits.said fits.may
-    where
-      by_said : (b : Bool) → MaySay p.core.system b → b ≡ false
-      by_said false may = refl
-      by_said true may = let some : is_some p.core.system.stop ≡ true = may refl in let none : is_some p.core.system.stop ≡ false = ap (λ (m : SystemState). is_some m.stop) stood.stands.at.system ∙ ap is_some runs in let no : true ≡ false = sym some ∙ none in absurd (cc)
+  not_said = says_none p.core.system fits.said fits.may (ap (λ (m : SystemState). m.stop) stood.stands.at.system ∙ runs)
 
   spot : a.spot ≡ at (IsWithin x.txn x.tries (map act_of x.commands.now) x.deadly false) (CommitAct ∷ more)
   spot = fits.spot ∙ (ap (λ b. at (IsWithin x.txn x.tries (map act_of x.commands.now) x.deadly b) (rest_of k)) not_said ∙ ap (at (IsWithin x.txn x.tries (map act_of x.commands.now) x.deadly false)) next)
@@ -288,13 +283,7 @@ module _ {V : Type 0} (told : V → Option Disk) (may_leave : V → Disk → Typ
     fails_told : j.transcript.client ≡ k.transcript.client → lines_of j ≡ lines_of k ++ Refused CommitAct StoreFailed ∷ [] → rest_of j ≡ fits.more → j.state ≡ Outside → Went told may_leave faults precheck s B p w a st gs y v true j gs z u
     fails_told client lines rest state =
         went_by told may_leave faults precheck s B B p q w a st gs gs y z v u ds k j is did m from_there own_is cause client (lines ∙ ap (λ l. lines_of k ++ l) (sym said_is))
-        (subst (λ (n : State). Fits told may_leave faults s B q (after w a.client ds q.core) gs z u (ended a m) (rest_of j) n) (sym state) (record {
-          said = true;
-          may = λ e. stopped;
-          spot = to_is ∙ ap (at (IsOutside true)) (sym rest);
-          none = refl;
-          placed = subst (IsPlaced false) (sym rest) placed_behind;
-        }))
+        (subst (λ (n : State). Fits told may_leave faults s B q (after w a.client ds q.core) gs z u (ended a m) (rest_of j) n) (sym state) (outside_by z a m true fits.more (rest_of j) rest (λ e. stopped) to_is placed_behind))
         (λ up. let no_stop : is_some z.stop ≡ false = ap is_some up in let no : true ≡ false = sym stopped ∙ no_stop in absurd (cc))
 
     fails_unsaid : j.transcript ≡ k.transcript → Went told may_leave faults precheck s B p w a st gs y v false j gs z u
@@ -359,13 +348,7 @@ module _ {V : Type 0} (told : V → Option Disk) (may_leave : V → Disk → Typ
     pub ok_where_it_stopped : is_some y.stop ≡ true → j.transcript.client ≡ k.transcript.client → lines_of j ≡ lines_of k ++ CommitOk ∷ [] → rest_of j ≡ fits.more → j.state ≡ Outside → Went told may_leave faults precheck s B p w a st gs y v true j gs y v
     ok_where_it_stopped stop client lines rest state =
         went_by told may_leave faults precheck s B B p p w a st gs gs y y v v [] k j is still_did ok starts own_ok ok_cause client lines
-        (subst (λ (n : State). Fits told may_leave faults s B p still gs y v (ended a ok) (rest_of j) n) (sym state) (record {
-          said = false;
-          may = λ e. absurd (cc);
-          spot = ap (at (IsOutside false)) (sym rest);
-          none = refl;
-          placed = subst (IsPlaced false) (sym rest) placed_behind;
-        }))
+        (subst (λ (n : State). Fits told may_leave faults s B p still gs y v (ended a ok) (rest_of j) n) (sym state) (outside_by y a ok false fits.more (rest_of j) rest (λ e. absurd (cc)) refl placed_behind))
         (λ up. let no_stop : is_some y.stop ≡ false = ap is_some up in let no : true ≡ false = sym stop ∙ no_stop in absurd (cc))
 
     -- ---- while the engine runs
@@ -542,13 +525,7 @@ module _ {V : Type 0} (told : V → Option Disk) (may_leave : V → Disk → Typ
           pub ended_ok : j.transcript.client ≡ k.transcript.client → lines_of j ≡ lines_of k ++ CommitOk ∷ [] → rest_of j ≡ fits.more → j.state ≡ Outside → Went told may_leave faults precheck s B p w a st gs y v true j hs z v
           ended_ok client lines rest state =
               went_by told may_leave faults precheck s B B p g.to w a st gs hs y z v v end_deeds k j is end_did end_ok starts (ap (λ xs. xs ++ end_receipts) fits.pending) end_cause client lines
-              (subst (λ (n : State). Fits told may_leave faults s B g.to late hs z v (ended a end_ok) (rest_of j) n) (sym state) (record {
-                said = false;
-                may = λ e. absurd (cc);
-                spot = ap (at (IsOutside false)) (sym rest);
-                none = refl;
-                placed = subst (IsPlaced false) (sym rest) placed_behind;
-              }))
+              (subst (λ (n : State). Fits told may_leave faults s B g.to late hs z v (ended a end_ok) (rest_of j) n) (sym state) (outside_by z a end_ok false fits.more (rest_of j) rest (λ e. absurd (cc)) refl placed_behind))
               (λ up n there. let was = lived gs hs y z x.txn others (λ e. let no : false ≡ true = sym (ap (λ r. is_open (state_in r)) gone) ∙ e in absurd (cc)) n there in inr (was.0, λ mine. was.1 (only n mine)))
 
           pub ended_unsaid : j.transcript ≡ k.transcript → Went told may_leave faults precheck s B p w a st gs y v false j hs z v

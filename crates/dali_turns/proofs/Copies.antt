@@ -51,11 +51,11 @@ use Rattle.dali_turns.proofs.Refusals.{done_last}
 use Rattle.dali_turns.proofs.Auditing.{rows_same}
 use Rattle.dali_turns.proofs.Flushing.{has_stop}
 use Rattle.dali_turns.proofs.Beside.{is_beside, is_out_of}
-use Rattle.dali_turns.proofs.Doing.{Did, behind, ended, went_on, went_by, went_silent}
+use Rattle.dali_turns.proofs.Doing.{Did, behind, ended, outside_by, went_on, went_by, went_silent}
 use Rattle.dali_turns.proofs.Coursing.{did_course}
 use Rattle.dali_turns.proofs.Ending.{one_then}
 use Rattle.dali_turns.proofs.Finishing.{stop_point, finish_point, stops_there, stopped_at, finishes_there, finished_at, faulted_at, done_on}
-use Rattle.dali_turns.proofs.Starting.{under_then}
+use Rattle.dali_turns.proofs.Starting.{making_on, under_then}
 
 -- ---- a region whose flag is cleared keeps its hold
 
@@ -78,13 +78,7 @@ module _ {V : Type 0} (told : V → Option Disk) (may_leave : V → Disk → Typ
   pub store_failed : j.transcript.client ≡ k.transcript.client → lines_of j ≡ lines_of k ++ Refused CheckpointAct StoreFailed ∷ [] → rest_of j ≡ more → j.state ≡ Outside → Went told may_leave faults precheck s B p w a state gs y v true j hs z u
   store_failed client lines rest now =
       went_by told may_leave faults precheck s B C p q w a state gs hs y z v u ds k j is did failure starts own_is (cut, tt, (met, tt)) client lines
-      (subst (λ (x : State). Fits told may_leave faults s C q (after w a.client ds q.core) hs z u (ended a failure) (rest_of j) x) (sym now) (record {
-        said = true;
-        may = λ e. did.stood.stops stopped;
-        spot = ap (at (IsOutside true)) (sym rest);
-        none = refl;
-        placed = subst (IsPlaced false) (sym rest) placed;
-      }))
+      (subst (λ (x : State). Fits told may_leave faults s C q (after w a.client ds q.core) hs z u (ended a failure) (rest_of j) x) (sym now) (outside_by z a failure true more (rest_of j) rest (λ e. did.stood.stops stopped) refl placed))
       (rows_same state j.state y z same_rows none)
 
   pub store_failed_silent : j.transcript ≡ k.transcript → Went told may_leave faults precheck s B p w a state gs y v false j hs z u
@@ -129,16 +123,7 @@ module _ {V : Type 0} (told : V → Option Disk) (may_leave : V → Disk → Typ
         went_on told may_leave faults precheck s B B p went.to w a state gs hs y y v u [] k j is did true same
         (subst (λ (m : State). Fits told may_leave faults s B went.to (after w a.client [] went.to.core) hs y u (behind a w []) (rest_of j) m) (sym now)
         (subst (λ (n : ℕ). Fits told may_leave faults s B went.to (after w a.client [] went.to.core) hs y u (behind a w []) (rest_of j) (Copying (record c { copied = n + 1 }) (next + 1))) fits.copied (record {
-          making = record {
-            more = fits.making.more;
-            makes = rest ∙ fits.making.makes;
-            spot = fits.making.spot ∙ ap (at (IsOutside false)) (sym rest);
-            since = fits.making.since;
-            pending = ap (λ xs. xs ++ []) fits.making.pending;
-            placed = subst (IsPlaced false) (sym rest) fits.making.placed;
-            flag = ap (λ (m : SystemState). m.checking) went.is.at.system ∙ went.is.flag;
-            under = under_then w a.client [] went.to.core ∙ fits.making.under;
-          };
+          making = making_on p went.to w a (rest_of k) (rest_of j) [] fits.making rest (ap (λ (m : SystemState). m.checking) went.is.at.system ∙ went.is.flag);
           head = fits.head;
           copying = λ _. went.is;
           copied = ap (λ n. n + 1) fits.copied;

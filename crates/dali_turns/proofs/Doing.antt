@@ -9,16 +9,16 @@ use Rattle.dali_system.specs.Courses.{Step}
 use Rattle.dali_crash.specs.Checkpoints.{StoreStep, Does, Point, IsPointStep, IsPointCourse}
 use Rattle.dali_crash.specs.Traces.{Start, bases_of}
 use Rattle.dali_vault.specs.Vaulted.{Vaulted}
-use Rattle.dali_stepwise.specs.Beside.{is_apart}
+use Rattle.dali_calls.specs.Others.{is_apart}
 use Rattle.dali_steps.specs.Courses.{is_quiet}
 use Rattle.dali_clean.specs.Cleaned.{AreDead}
 use Rattle.dali_whole.specs.Cores.{HoldsPlaces}
 use Rattle.dali_checkpoint.proofs.Calls.{course_join}
-use Rattle.dali_transcripts.specs.Words.{Why}
+use Rattle.dali_transcripts.specs.Words.{Act, Why}
 use Rattle.dali_transcripts.specs.World.{Deed, Meets, World, log_of}
-use Rattle.dali_transcripts.specs.Moves.{Move, from, said, own, to}
+use Rattle.dali_transcripts.specs.Moves.{Move, Outside as IsOutside, at, from, said, own, to}
 use Rattle.dali_transcripts.specs.Causes.{HasCause}
-use Rattle.dali_transcripts.specs.Rounds.{Standing, Stands}
+use Rattle.dali_transcripts.specs.Rounds.{Standing, IsPlaced, Stands}
 use Rattle.dali_transcripts.specs.Laws.{receipts_from}
 use Rattle.dali_transcripts.proofs.Paths.{one_more_step}
 use Rattle.dali_transcripts.proofs.Rounds.{deeds_are_done}
@@ -29,8 +29,9 @@ use Rattle.dali_deeds.specs.Laws.{IsNoFault}
 use Rattle.dali_turns.specs.declared.client.Client.{Client}
 use Rattle.dali_turns.specs.declared.client.State.{State}
 use Rattle.dali_turns.specs.Stood.{IsQuiet, Stood}
-use Rattle.dali_turns.specs.Fits.{lines_of, IsOf, Owns, Audits}
+use Rattle.dali_turns.specs.Fits.{lines_of, Speaks, IsOf, Owns, Audits}
 use Rattle.dali_turns.specs.Others.{LeavesOthers}
+use Rattle.dali_turns.specs.Outside.{FitsOutside, MaySay}
 use Rattle.dali_turns.specs.Goes.{RowsTell, Came, Went}
 use Rattle.dali_turns.proofs.Deeds.{course_tells, meets_tells, goes_on}
 use Rattle.dali_clients.specs.Told.{said_of}
@@ -45,6 +46,16 @@ behind a w ds = record a { pending = a.pending ++ receipts_from (length (log_of 
 -- and behind the step
 abbrev pub ended : Standing → Move → Standing
 ended a x = record a { lines = a.lines ++ said x; pending = []; spot = to x }
+
+-- outside a transaction
+pub outside_by : (y : SystemState) (a : Standing) (x : Move) (b : Bool) (more rest : List Act) → rest ≡ more → MaySay y b → to x ≡ at (IsOutside b) more → IsPlaced false more → FitsOutside y (ended a x) rest
+outside_by y a x b more rest same may spot placed = record {
+  said = b;
+  may = may;
+  spot = spot ∙ ap (at (IsOutside b)) (sym same);
+  none = refl;
+  placed = subst (IsPlaced false) (sym same) placed;
+}
 
 module _ {V : Type 0} (told : V → Option Disk) (may_leave : V → Disk → Type 0) (faults : V → ℕ) where
   pub record Did (precheck : Bool) (s : Start) (B : List (List Record)) (p : Point) (w : World) (c : ℕ) (state : State) (gs : List RegionState) (y : SystemState) (v : Vaulted V)
@@ -191,6 +202,28 @@ module _ {V : Type 0} (told : V → Option Disk) (may_leave : V → Disk → Typ
           let both : true ≡ false = sym there ∙ e in absurd (cc)
 
   -- ---- the end of a step
+  -- the world is the one behind its deeds, and there the client stands
+  unfoldable pub went_to : (precheck : Bool) (s : Start) (B C : List (List Record)) (p q : Point) (w : World) (a b : Standing) (state : State) (gs hs : List RegionState) (y z : SystemState) (v u : Vaulted V) (ds : List Deed) (ok : Bool) (j : Client)
+      → Did precheck s B p w a.client state gs y v ds C q hs z u → b.client ≡ a.client → b.acts ≡ a.acts → Speaks (after w a.client ds q.core) b j → Came told may_leave faults ok s C q (after w a.client ds q.core) hs z u b j → (ok ≡ true → RowsTell state y j.state z)
+      → Went told may_leave faults precheck s B p w a state gs y v ok j hs z u
+  went_to precheck s B C p q w a b state gs hs y z v u ds ok j did client acts is came rows = record {
+    to = q;
+    batches = C;
+    steps = did.steps;
+    course = did.course;
+    deeds = ds;
+    world = after w a.client ds q.core;
+    goes = did.goes;
+    stood = did.stood;
+    standing = b;
+    client = client;
+    acts = acts;
+    is = is;
+    came = came;
+    rows = rows;
+    others = did.others;
+  }
+
   module _ (precheck : Bool) (s : Start) (B C : List (List Record)) (p q : Point) (w : World) (a : Standing) (state : State) (gs hs : List RegionState) (y z : SystemState) (v u : Vaulted V) (ds : List Deed) (k j : Client)
       (is : IsOf w a k) (did : Did precheck s B p w a.client state gs y v ds C q hs z u) where
     pub so_far : Stands (after w a.client ds q.core) (behind a w ds)
@@ -199,49 +232,22 @@ module _ {V : Type 0} (told : V → Option Disk) (may_leave : V → Disk → Typ
     -- the command is under way still
     pub went_on : (ok : Bool) → j.transcript ≡ k.transcript → Came told may_leave faults ok s C q (after w a.client ds q.core) hs z u (behind a w ds) j → (ok ≡ true → RowsTell state y j.state z)
         → Went told may_leave faults precheck s B p w a state gs y v ok j hs z u
-    went_on ok same came rows = record {
-      to = q;
-      batches = C;
-      steps = did.steps;
-      course = did.course;
-      deeds = ds;
-      world = after w a.client ds q.core;
-      goes = did.goes;
-      stood = did.stood;
-      standing = behind a w ds;
-      client = refl;
-      acts = refl;
-      is = record { client = is.client ∙ ap (λ t. t.client) (sym same); lines = is.lines ∙ ap (λ t. map said_of t.lines) (sym same); stands = so_far };
-      came = came;
-      rows = rows;
-      others = did.others;
-    }
+    went_on ok same came rows =
+        went_to precheck s B C p q w a (behind a w ds) state gs hs y z v u ds ok j did refl refl
+        (record { client = is.client ∙ ap (λ t. t.client) (sym same); lines = is.lines ∙ ap (λ t. map said_of t.lines) (sym same); stands = so_far }) came rows
 
     module _ (x : Move) (starts : a.spot ≡ from x) (own_is : a.pending ++ receipts_from (length (log_of w)) ds ≡ own x) (cause : HasCause (after w a.client ds q.core) a.client x) where
       -- it is done, and its line is said
       pub went_by : j.transcript.client ≡ k.transcript.client → lines_of j ≡ lines_of k ++ said x → Came told may_leave faults true s C q (after w a.client ds q.core) hs z u (ended a x) j → RowsTell state y j.state z
           → Went told may_leave faults precheck s B p w a state gs y v true j hs z u
-      went_by client lines came rows = record {
-        to = q;
-        batches = C;
-        steps = did.steps;
-        course = did.course;
-        deeds = ds;
-        world = after w a.client ds q.core;
-        goes = did.goes;
-        stood = did.stood;
-        standing = ended a x;
-        client = refl;
-        acts = refl;
-        is = record {
-          client = is.client ∙ sym client;
-          lines = ap (λ l. l ++ said x) is.lines ∙ sym lines;
-          stands = one_more_step (after w a.client ds q.core) a.client a.acts a.lines _ (a.pending ++ receipts_from (length (log_of w)) ds) a.spot x so_far starts own_is cause;
-        };
-        came = came;
-        rows = λ e. rows;
-        others = did.others;
-      }
+      went_by client lines came rows =
+          went_to precheck s B C p q w a (ended a x) state gs hs y z v u ds true j did refl refl
+          (record {
+            client = is.client ∙ sym client;
+            lines = ap (λ l. l ++ said x) is.lines ∙ sym lines;
+            stands = one_more_step (after w a.client ds q.core) a.client a.acts a.lines _ (a.pending ++ receipts_from (length (log_of w)) ds) a.spot x so_far starts own_is cause;
+          })
+          came (λ e. rows)
 
       -- or memory for the line was refused
       pub went_silent : j.transcript ≡ k.transcript → Went told may_leave faults precheck s B p w a state gs y v false j hs z u

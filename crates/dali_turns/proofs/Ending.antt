@@ -38,7 +38,7 @@ use Rattle.dali_turns.proofs.Beside.{course_longer}
 use Rattle.dali_turns.proofs.Passing.{all_passed}
 use Rattle.dali_turns.proofs.Auditing.{rows_same}
 use Rattle.dali_turns.proofs.Flushing.{did_flush, did_fault}
-use Rattle.dali_turns.proofs.Doing.{vault_stops, Did, did_nothing, did_meet, did_quietly, did_then, ended, went_on, went_by, went_silent}
+use Rattle.dali_turns.proofs.Doing.{vault_stops, Did, did_nothing, did_meet, did_quietly, did_then, ended, outside_by, went_on, went_by, went_silent}
 
 -- deeds, one behind others
 pub one_then : (w : World) (c : ℕ) (x : Deed) (es : List Deed) (d e : CoreState) → after (after w c (x ∷ []) d) c es e ≡ after w c (x ∷ es) e
@@ -172,13 +172,7 @@ module _ {V : Type 0} (told : V → Option Disk) (may_leave : V → Disk → Typ
       pub ends : j.transcript.client ≡ k.transcript.client → lines_of j ≡ lines_of k ++ AuditSaid found ∷ [] → rest_of j ≡ fits.more → j.state ≡ Outside → Went told may_leave faults precheck s B p w a state gs y v true j gs x u
       ends client lines rest now =
           went_by told may_leave faults precheck s B f.batches p f.to w a state gs gs y x v u (Logs (audit_record audit.begin found) ∷ []) k j is did_all move starts own_is flushed client lines
-          (subst (λ (m : State). Fits told may_leave faults s f.batches f.to (after w a.client (Logs (audit_record audit.begin found) ∷ []) f.to.core) gs x u (ended a move) (rest_of j) m) (sym now) (record {
-            said = false;
-            may = λ e. absurd (cc);
-            spot = ap (at (IsOutside false)) (sym rest);
-            none = refl;
-            placed = subst (IsPlaced false) (sym rest) placed;
-          }))
+          (subst (λ (m : State). Fits told may_leave faults s f.batches f.to (after w a.client (Logs (audit_record audit.begin found) ∷ []) f.to.core) gs x u (ended a move) (rest_of j) m) (sym now) (outside_by x a move false fits.more (rest_of j) rest (λ e. absurd (cc)) refl placed))
           (rows_same state j.state y x (ap (λ (m : SystemState). m.table) is_taken) (λ t none. none))
 
       pub ends_silent : j.transcript ≡ k.transcript → Went told may_leave faults precheck s B p w a state gs y v false j gs x u
@@ -213,13 +207,7 @@ module _ {V : Type 0} (told : V → Option Disk) (may_leave : V → Disk → Typ
       fails_end client lines rest now =
           went_by told may_leave faults precheck s B B p g.to w a state gs gs y x v u (Logs (audit_record audit.begin found) ∷ Meets StoreFailed ∷ []) k j is did_failure failure starts failure_own
           ((lost_audit late audit.begin number found lost, refl), met) client lines
-          (subst (λ (m : State). Fits told may_leave faults s B g.to late gs x u (ended a failure) (rest_of j) m) (sym now) (record {
-            said = true;
-            may = λ e. did_failure.stood.stops stopped;
-            spot = ap (at (IsOutside true)) (sym rest);
-            none = refl;
-            placed = subst (IsPlaced false) (sym rest) placed;
-          }))
+          (subst (λ (m : State). Fits told may_leave faults s B g.to late gs x u (ended a failure) (rest_of j) m) (sym now) (outside_by x a failure true fits.more (rest_of j) rest (λ e. did_failure.stood.stops stopped) refl placed))
           (rows_same state j.state y x (ap (λ (m : SystemState). m.table) is_stopped) (λ t none. none))
 
       pub fails_silent : j.transcript ≡ k.transcript → Went told may_leave faults precheck s B p w a state gs y v false j gs x u
@@ -246,13 +234,7 @@ module _ {V : Type 0} (told : V → Option Disk) (may_leave : V → Disk → Typ
     pub stops_end : j.transcript.client ≡ k.transcript.client → lines_of j ≡ lines_of k ++ Refused AuditAct (StoppedBy cause) ∷ [] → rest_of j ≡ fits.more → j.state ≡ Outside → Went told may_leave faults precheck s B p w a state gs y v true j gs y v
     stops_end client lines rest now =
         went_by told may_leave faults precheck s B B p p w a state gs gs y y v v (Meets (StoppedBy cause) ∷ []) k j is stop_did refusal starts refusal_own (tt, met_here) client lines
-        (subst (λ (m : State). Fits told may_leave faults s B p (after w a.client (Meets (StoppedBy cause) ∷ []) p.core) gs y v (ended a refusal) (rest_of j) m) (sym now) (record {
-          said = true;
-          may = λ e. ap is_some stop;
-          spot = ap (at (IsOutside true)) (sym rest);
-          none = refl;
-          placed = subst (IsPlaced false) (sym rest) placed;
-        }))
+        (subst (λ (m : State). Fits told may_leave faults s B p (after w a.client (Meets (StoppedBy cause) ∷ []) p.core) gs y v (ended a refusal) (rest_of j) m) (sym now) (outside_by y a refusal true fits.more (rest_of j) rest (λ e. ap is_some stop) refl placed))
         (rows_same state j.state y y refl (λ t none. none))
 
     pub stops_silent : j.transcript ≡ k.transcript → Went told may_leave faults precheck s B p w a state gs y v false j gs y v

@@ -34,7 +34,7 @@ use Rattle.dali_turns.specs.Fits.{rest_of, lines_of, IsOf, Owns, Makes, Fits}
 use Rattle.dali_turns.specs.Goes.{Went}
 use Rattle.dali_turns.proofs.Refusals.{HasCauseNow, met_now, right_now, alone_behind, full_audit, stop_now, full_checkpoint_now}
 use Rattle.dali_turns.proofs.Auditing.{rows_same}
-use Rattle.dali_turns.proofs.Doing.{vault_stops, Did, did_meet, did_then, ended, went_on, went_by, went_silent}
+use Rattle.dali_turns.proofs.Doing.{vault_stops, Did, did_meet, did_then, ended, outside_by, went_on, went_by, went_silent}
 use Rattle.dali_turns.proofs.Coursing.{did_course}
 use Rattle.dali_turns.proofs.Ending.{one_then}
 
@@ -187,13 +187,7 @@ module _ {V : Type 0} (told : V → Option Disk) (may_leave : V → Disk → Typ
           → Went told may_leave faults precheck s B p w a state gs y v true j gs (in_checkpoint y false) v
       given_up client lines rest now =
           went_by told may_leave faults precheck s B B p (finish_point p) w a state gs gs y (in_checkpoint y false) v v deeds k j is did move starts own_is (h.cut (after w a.client deeds (finish_point p).core), h.spans, (met, alone_behind (after w a.client deeds (finish_point p).core) r (making.since, number) met.met.place)) client lines
-          (subst (λ (x : State). Fits told may_leave faults s B (finish_point p) (after w a.client deeds (finish_point p).core) gs (in_checkpoint y false) v (ended a move) (rest_of j) x) (sym now) (record {
-            said = is_stop r;
-            may = λ e. h.stops e;
-            spot = ap (at (IsOutside (is_stop r))) (sym rest);
-            none = refl;
-            placed = subst (IsPlaced false) (sym rest) placed;
-          }))
+          (subst (λ (x : State). Fits told may_leave faults s B (finish_point p) (after w a.client deeds (finish_point p).core) gs (in_checkpoint y false) v (ended a move) (rest_of j) x) (sym now) (outside_by (in_checkpoint y false) a move (is_stop r) making.more (rest_of j) rest (λ e. h.stops e) refl placed))
           (rows_same state j.state y (in_checkpoint y false) refl none)
 
       pub given_up_silent : j.transcript ≡ k.transcript → Went told may_leave faults precheck s B p w a state gs y v false j gs (in_checkpoint y false) v

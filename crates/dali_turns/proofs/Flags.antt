@@ -5,8 +5,7 @@ use Rattle.dali_region.specs.State.{RegionState, touched, dead, poked}
 use Rattle.dali_system.specs.State.{SystemState}
 use Rattle.dali_calls.specs.Flags.{FlagStays, FlagsStay}
 use Rattle.dali_calls.specs.Plans.{Planned}
-use Rattle.dali_calls.proofs.Flags.{flag_further, flag_kept, flag_touched, flags_set}
-use Rattle.dali_single.proofs.Flags.{goes_flag}
+use Rattle.dali_calls.proofs.Flags.{flag_further, flag_kept, flag_touched, flags_set, goes_flag}
 use Rattle.dali_stepwise.specs.Stepwise.{OneFurther, IsDeath}
 
 -- ---- all regions

@@ -1,7 +1,5 @@
 -- A client makes no step more: a commit of its own that is logged is flushed, or fails; all else may be cut where it stands.
 use Rattle.std.proofs.Common.{◌≡◌, ℕ, ◌+◌, ◌≤◌, ◌<◌, ◌^◌, Bool, true, false, List, [], ◌++◌, length, Option, refl, ap, sym, subst, ◌∙◌, inr}
-use Rattle.std.specs.Prelude.{not, nat_lt}
-use Rattle.std.proofs.lemmas.Bool.{ltb-false}
 use Rattle.std.proofs.lemmas.List.{append-nil}
 use Rattle.std.proofs.lemmas.List.Elements.{filter_map-append}
 use Rattle.dali_record.specs.declared.operations.Pending.{Pending}
@@ -36,16 +34,9 @@ use Rattle.dali_turns.specs.Turns.{Halted, HaltGoes}
 use Rattle.dali_turns.proofs.Placed.{places_kept}
 use Rattle.dali_turns.proofs.Unfinished.{under_way_on}
 use Rattle.dali_turns.proofs.Cutting.{fits_under_way}
-use Rattle.dali_turns.proofs.Doing.{Did, behind, did_nothing}
+use Rattle.dali_turns.proofs.Doing.{Did, behind, did_nothing, went_to}
 use Rattle.dali_turns.proofs.Turning.{deeds_grown}
-use Rattle.dali_turns.proofs.Awaiting.{stable_is, in_commit, flushed_did, commits, own_commits, commits_cause, lost_did, fault, own_fault, fault_cause, met_did, finds, own_finds, finds_cause}
-
-not_flushed : (n m : ℕ) → not (nat_lt n m) ≡ true → m ≤ n
-not_flushed n m e = by_test (nat_lt n m) refl e
-  where
-    by_test : (b : Bool) → nat_lt n m ≡ b → not b ≡ true → m ≤ n
-    by_test true less h = absurd (cc)
-    by_test false more h = ltb-false n m more
+use Rattle.dali_turns.proofs.Awaiting.{not_before, stable_is, in_commit, flushed_did, commits, own_commits, commits_cause, lost_did, fault, own_fault, fault_cause, met_did, finds, own_finds, finds_cause}
 
 module _ {V : Type 0} (told : V → Option Disk) (may_leave : V → Disk → Type 0) (faults : V → ℕ) where
   module _ (precheck : Bool) (st : State) (s : Start) (B : List (List Record)) (p : Point) (w : World) (a : Standing) (k : Client) (gs : List RegionState) (y : SystemState) (v : Vaulted V)
@@ -53,24 +44,11 @@ module _ {V : Type 0} (told : V → Option Disk) (may_leave : V → Disk → Typ
     halted_by : (ds : List Deed) (C : List (List Record)) (q : Point) (hs : List RegionState) (z : SystemState) (u : Vaulted V) → Did told may_leave faults precheck s B p w a.client st gs y v ds C q hs z u
         → IsUnderWay (after w a.client ds q.core) a.client a.spot (a.pending ++ receipts_from (length (log_of w)) ds) [] → numbers_of (receipts_from (length (log_of w)) ds) ≡ []
         → Halted told may_leave faults precheck st s B p w a k gs y v hs z u
+    unfolding went_to
     halted_by ds C q hs z u did under none = record {
-      went = record {
-        to = q;
-        batches = C;
-        steps = did.steps;
-        course = did.course;
-        deeds = ds;
-        world = after w a.client ds q.core;
-        goes = did.goes;
-        stood = did.stood;
-        standing = behind a w ds;
-        client = refl;
-        acts = refl;
-        is = record { client = is.client; lines = is.lines; stands = deeds_are_done w (after w a.client ds q.core) a.client a.acts a.lines a.pending a.spot ds did.goes.grows did.goes.more is.stands };
-        came = under;
-        rows = λ e. absurd (cc);
-        others = did.others;
-      };
+      went =
+          went_to told may_leave faults precheck s B C p q w a (behind a w ds) st gs hs y z v u ds false k did refl refl
+          (record { client = is.client; lines = is.lines; stands = deeds_are_done w (after w a.client ds q.core) a.client a.acts a.lines a.pending a.spot ds did.goes.grows did.goes.more is.stands }) under (λ e. absurd (cc));
       numbers =
           ap (λ c. numbers_of (deeds_of (after w a.client ds q.core) c)) (sym is.client)
           ∙ (ap numbers_of (deeds_grown w (after w a.client ds q.core) a.client ds did.goes.grows did.goes.more)
@@ -145,11 +123,11 @@ module _ {V : Type 0} (told : V → Option Disk) (may_leave : V → Disk → Typ
     lost_from : (state : State) → awaits_flush state y v ≡ true → (z : SystemState) (u : Vaulted V) → z ≡ store_stopped (taken y) → u.stopped ≡ true → u.flushed ≡ v.flushed → (IsWholeCore told gs y v → IsWholeCore told gs z u)
         → FlushFails told may_leave faults gs y v z u → HaltsFrom k gs y v gs z u state
     lost_from (Committing x number us next) e = λ z u z_is stopped same whole fails precheck st s B p w a stood of fits.
-        halted_lost precheck st s B p w a k gs y v stood of x number us.items next fits (not_flushed number (y.first + v.flushed) e) z u z_is stopped same whole fails
+        halted_lost precheck st s B p w a k gs y v stood of x number us.items next fits (not_before number (y.first + v.flushed) e) z u z_is stopped same whole fails
     lost_from state e = absurd (cc)
 
     found_from : (state : State) → awaits_flush state y v ≡ true → v.stopped ≡ true → HaltsFrom k gs y v gs y v state
-    found_from (Committing x number us next) e = λ had precheck st s B p w a stood of fits. halted_found precheck st s B p w a k gs y v stood of x number us.items next fits (not_flushed number (y.first + v.flushed) e) had
+    found_from (Committing x number us next) e = λ had precheck st s B p w a stood of fits. halted_found precheck st s B p w a k gs y v stood of x number us.items next fits (not_before number (y.first + v.flushed) e) had
     found_from state e = absurd (cc)
 
     reaches_from : (state : State) → awaits_flush state y v ≡ true → (u : Vaulted V) → ReachesNext told state u

@@ -1,4 +1,5 @@
 -- What a run gives a step. No step asks for one: where a clause speaks of each run that has come here, it is shown from one.
+--     IsHere Fitting ..        there is a run, a world and a standing, in which the client stands, and which are so
 --     MayStep ..               there is a run, a world and a standing, in which the client stands so
 --     MayYield ..              the same where it gives way to an older transaction, in the midst of a step
 use Rattle.std.proofs.Common.{ℕ, Bool, List, Option}
@@ -20,7 +21,7 @@ use Rattle.dali_turns.specs.Fits.{rest_of, IsOf, Fits}
 use Rattle.dali_turns.specs.Goes.{StepGoes, YieldGoes}
 
 module _ {V : Type 0} (told : V → Option Disk) (may_leave : V → Disk → Type 0) (faults : V → ℕ) where
-  pub record MayStep (state : State) (k : Client) (gs : List RegionState) (y : SystemState) (v : Vaulted V) : Type 0 where
+  pub record IsHere (Fitting : Start → List (List Record) → Point → World → Standing → Type 0) (k : Client) (gs : List RegionState) (y : SystemState) (v : Vaulted V) : Type 0 where
     pub start : Start
     pub batches : List (List Record)
     pub point : Point
@@ -29,18 +30,13 @@ module _ {V : Type 0} (told : V → Option Disk) (may_leave : V → Disk → Typ
     pub precheck : Bool
     pub stood : Stood told may_leave faults start batches point world precheck gs y v
     pub is : IsOf world standing k
-    pub fits : Fits told may_leave faults start batches point world gs y v standing (rest_of k) state
+    pub fits : Fitting start batches point world standing
 
-  pub record MayYield (x : Transaction) (holder : ℕ) (k : Client) (gs : List RegionState) (y : SystemState) (v : Vaulted V) : Type 0 where
-    pub start : Start
-    pub batches : List (List Record)
-    pub point : Point
-    pub world : World
-    pub standing : Standing
-    pub precheck : Bool
-    pub stood : Stood told may_leave faults start batches point world precheck gs y v
-    pub is : IsOf world standing k
-    pub fits : FitsYielding point world standing (rest_of k) x holder
+  abbrev pub MayStep : State → Client → List RegionState → SystemState → Vaulted V → Type 0
+  MayStep state k gs y v = IsHere (λ s B p w a. Fits told may_leave faults s B p w gs y v a (rest_of k) state) k gs y v
+
+  abbrev pub MayYield : Transaction → ℕ → Client → List RegionState → SystemState → Vaulted V → Type 0
+  MayYield x holder k gs y v = IsHere (λ s B p w a. FitsYielding p w a (rest_of k) x holder) k gs y v
 
   module _ (precheck : Bool) (k : Client) (gs : List RegionState) (y : SystemState) (v : Vaulted V) (ok : Bool) (j : Client) (hs : List RegionState) (z : SystemState) (u : Vaulted V) where
     module _ (state : State) where

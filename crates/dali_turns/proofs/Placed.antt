@@ -16,7 +16,7 @@ use Rattle.dali_clients.specs.declared.line.Why.{Why}
 use Rattle.dali_clients.specs.declared.line.Why.TheVariants.{Stopped as IsStopped, LogFull as IsFull}
 use Rattle.dali_turns.specs.declared.client.Client.{Client}
 use Rattle.dali_turns.specs.declared.client.State.{State}
-use Rattle.dali_turns.specs.declared.client.State.TheVariants.{Outside, LeftOut, Within, Calling, TakingBack, Committing, Waiting, Auditing, Copying, Certifying, Gone}
+use Rattle.dali_turns.specs.declared.client.State.TheVariants.{Outside, LeftOut, Within, TakingBack, Committing, Copying}
 use Rattle.dali_turns.specs.declared.client.Transaction.{Transaction}
 use Rattle.dali_clients.specs.Told.{act_of}
 use Rattle.dali_transcripts.specs.Words.{closes}
@@ -52,56 +52,20 @@ Suits told state gs hs u = Unit {0}
 
 suits_next : {V : Type 0} (told : V → Option Disk) (state : State) (gs hs : List RegionState) (u : Vaulted V) → Suits told state gs hs u → ReachesNext told state u
 suits_next told (Copying c next) gs hs u h = h
-suits_next told Outside gs hs u h = tt
-suits_next told LeftOut gs hs u h = tt
-suits_next told (Within x) gs hs u h = tt
-suits_next told (Calling x plan) gs hs u h = tt
-suits_next told (TakingBack x plan why) gs hs u h = tt
-suits_next told (Committing x number removals next) gs hs u h = tt
-suits_next told (Waiting tries holder) gs hs u h = tt
-suits_next told (Auditing audit next) gs hs u h = tt
-suits_next told (Certifying c audit next) gs hs u h = tt
-suits_next told Gone gs hs u h = tt
+suits_next told _ gs hs u h = tt
 
 suits_regions : {V : Type 0} (told : V → Option Disk) (state : State) (gs hs : List RegionState) (u : Vaulted V) → Suits told state gs hs u → KeepsRegions state gs hs
 suits_regions told (Committing x number removals next) gs hs u h = h
-suits_regions told Outside gs hs u h = tt
-suits_regions told LeftOut gs hs u h = tt
-suits_regions told (Within x) gs hs u h = tt
-suits_regions told (Calling x plan) gs hs u h = tt
-suits_regions told (TakingBack x plan why) gs hs u h = tt
-suits_regions told (Waiting tries holder) gs hs u h = tt
-suits_regions told (Auditing audit next) gs hs u h = tt
-suits_regions told (Copying c next) gs hs u h = tt
-suits_regions told (Certifying c audit next) gs hs u h = tt
-suits_regions told Gone gs hs u h = tt
+suits_regions told _ gs hs u h = tt
 
 -- where the regions are as they were
 pub keeps_same : (state : State) (gs hs : List RegionState) → hs ≡ gs → KeepsRegions state gs hs
 keeps_same (Committing x number removals next) gs hs same = λ e. same
-keeps_same Outside gs hs same = tt
-keeps_same LeftOut gs hs same = tt
-keeps_same (Within x) gs hs same = tt
-keeps_same (Calling x plan) gs hs same = tt
-keeps_same (TakingBack x plan why) gs hs same = tt
-keeps_same (Waiting tries holder) gs hs same = tt
-keeps_same (Auditing audit next) gs hs same = tt
-keeps_same (Copying c next) gs hs same = tt
-keeps_same (Certifying c audit next) gs hs same = tt
-keeps_same Gone gs hs same = tt
+keeps_same _ gs hs same = tt
 
 keeps_both : (state : State) (gs rs hs : List RegionState) → KeepsRegions state gs rs → KeepsRegions state rs hs → KeepsRegions state gs hs
 keeps_both (Committing x number removals next) gs rs hs one two = λ e. two e ∙ one e
-keeps_both Outside gs rs hs one two = tt
-keeps_both LeftOut gs rs hs one two = tt
-keeps_both (Within x) gs rs hs one two = tt
-keeps_both (Calling x plan) gs rs hs one two = tt
-keeps_both (TakingBack x plan why) gs rs hs one two = tt
-keeps_both (Waiting tries holder) gs rs hs one two = tt
-keeps_both (Auditing audit next) gs rs hs one two = tt
-keeps_both (Copying c next) gs rs hs one two = tt
-keeps_both (Certifying c audit next) gs rs hs one two = tt
-keeps_both Gone gs rs hs one two = tt
+keeps_both _ gs rs hs one two = tt
 
 module _ {V : Type 0} (told : V → Option Disk) where
   module _ (state state' : State) (gs hs : List RegionState) (v u : Vaulted V) where

@@ -16,7 +16,7 @@ use Rattle.dali_crash.specs.StoreRuns.{StoreRun}
 use Rattle.dali_crash.specs.Traces.{Start, bases_of}
 use Rattle.dali_crash.proofs.Flags.{flag_stays}
 use Rattle.dali_vault.specs.Vaulted.{Vaulted}
-use Rattle.dali_stepwise.specs.Beside.{is_apart}
+use Rattle.dali_calls.specs.Others.{is_apart}
 use Rattle.dali_steps.specs.Courses.{calls_none, is_quiet}
 use Rattle.dali_steps.proofs.Courses.{came_same, vault_same, both_true}
 use Rattle.dali_steps.proofs.Steps.{quiet_goes}

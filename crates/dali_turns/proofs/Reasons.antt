@@ -22,7 +22,7 @@ use Rattle.dali_calls.specs.Plans.{Planned, want_of}
 use Rattle.dali_single.specs.declared.error.StepError.{StepError}
 use Rattle.dali_single.specs.Refusals.{IsAnswerTo, IsRefusedOn, IsRefusedIn, IsRefusal}
 use Rattle.dali_clients.specs.declared.command.Command.{Command}
-use Rattle.dali_clients.specs.declared.command.Command.TheVariants.{Begin, Call as IsCall, Die, Commit, Abort, Poke, Audit, Checkpoint}
+use Rattle.dali_clients.specs.declared.command.Command.TheVariants.{Call as IsCall}
 use Rattle.dali_clients.specs.Told.{act_of}
 use Rattle.dali_transcripts.specs.Words.{Act, Calls}
 
@@ -125,13 +125,7 @@ never_latched b g t dead e = by_hold g.hold refl
 pub command_is : (xs : List Command) (call : Call) (more : List Act) → map act_of xs ≡ Calls call ∷ more → slice_get xs 0 ≡ Some (IsCall call)
 command_is [] call more e = absurd (cc)
 command_is (IsCall k ∷ xs) call more e = let same : k ≡ call = cc in ap (λ z. Some (IsCall z)) same
-command_is (Begin ∷ xs) call more e = absurd (cc)
-command_is (Die n ∷ xs) call more e = absurd (cc)
-command_is (Commit ∷ xs) call more e = absurd (cc)
-command_is (Abort ∷ xs) call more e = absurd (cc)
-command_is (Poke r i m ∷ xs) call more e = absurd (cc)
-command_is (Audit ∷ xs) call more e = absurd (cc)
-command_is (Checkpoint ∷ xs) call more e = absurd (cc)
+command_is _ call more e = absurd (cc)
 
 -- why a clean-up is refused
 pub clean_runs : {T : Type 0} (o : Option Cause) (r : Result T CleanError) (t : T) → r ≡ Ok t → IfSome o (λ cause. r ≡ Err (CleanStopped cause)) → o ≡ None

@@ -15,7 +15,7 @@ use Rattle.dali_crash.specs.Checkpoints.{Point}
 use Rattle.dali_crash.specs.StoreRuns.{StoreRun}
 use Rattle.dali_transcripts.specs.Words.{Act, Audits as AuditAct, Checkpoints as CheckpointAct, Why, StoppedBy, Full, Damaged, StoreFailed, UnderWay, is_stop}
 use Rattle.dali_transcripts.specs.World.{Deed, Meets, Happening, World, logged_by, log_of, log_at, HasDone, has_failed, cause_of, stop_at}
-use Rattle.dali_transcripts.specs.Causes.{CanStop, IsCause, MetCause, IsAlone}
+use Rattle.dali_transcripts.specs.Causes.{CanStop, IsCause, IsRoomFor, MetCause, IsAlone, limit_of}
 use Rattle.dali_deeds.specs.Tells.{after, AreRightThen, Tells}
 use Rattle.dali_turns.proofs.Deeds.{stop_is_told}
 use Rattle.dali_turns.specs.Outside.{MaySay}
@@ -84,29 +84,31 @@ module _ (bases : Bases) (before : List Record) (w : World) (c : ℕ) (p : Point
   end_there why = end_is bases before w p run told ∙ sym (ap (sum_by record_length) (log_there w c (Meets why) p.core))
 
   -- an audit's begin has no room
-  pub full_now : p.core.system.stop ≡ None → p.core.system.limit + 1048576 < p.core.system.end + 1 → HasCauseNow w c p.core AuditAct None (full_audit p.core.system)
-  full_now runs above = record {
-    limit_is = refl;
+  full_for : (act : Act) → p.core.system.limit + 1048576 ≡ limit_of (after w c (Meets (full_audit p.core.system) ∷ []) p.core) act
+      → IsRoomFor p.core.system.sizes (log_at (after w c (Meets (full_audit p.core.system) ∷ []) p.core) (length w.happened)) act None AuditBegin
+      → p.core.system.stop ≡ None → p.core.system.limit + 1048576 < p.core.system.end + 1 → HasCauseNow w c p.core act None (full_audit p.core.system)
+  full_for act limit next runs above = record {
+    limit_is = limit;
     end_is = end_there (full_audit p.core.system);
     refused = AuditBegin;
-    next = refl;
+    next = next;
     spelled = tt;
     passes = above;
     runs = runs_there (Meets (full_audit p.core.system)) p.core runs;
   }
 
+  pub full_now : p.core.system.stop ≡ None → p.core.system.limit + 1048576 < p.core.system.end + 1 → HasCauseNow w c p.core AuditAct None (full_audit p.core.system)
+  full_now runs above = full_for AuditAct refl refl runs above
+
   pub full_checkpoint_now : p.core.system.stop ≡ None → p.core.system.limit + 1048576 < p.core.system.end + 1 → HasCauseNow w c p.core CheckpointAct None (full_audit p.core.system)
-  full_checkpoint_now runs above = record {
-    limit_is = refl;
-    end_is = end_there (full_audit p.core.system);
-    refused = AuditBegin;
-    next = refl;
-    spelled = tt;
-    passes = above;
-    runs = runs_there (Meets (full_audit p.core.system)) p.core runs;
-  }
+  full_checkpoint_now runs above = full_for CheckpointAct refl refl runs above
 
 -- ---- what may be said
 pub may_say_more : (y : SystemState) (s : Bool) (why : Why) → MaySay y s → (is_stop why ≡ true → is_some y.stop ≡ true) → MaySay y (s || is_stop why)
 may_say_more y true why may stops e = may refl
 may_say_more y false why may stops e = stops e
+
+-- of a stop nothing was said while the engine runs
+pub says_none : (y : SystemState) (s : Bool) → MaySay y s → y.stop ≡ None → s ≡ false
+says_none y false may runs = refl
+says_none y true may runs = let some : is_some y.stop ≡ true = may refl in let none : is_some y.stop ≡ false = ap is_some runs in let no : true ≡ false = sym some ∙ none in absurd (cc)

@@ -12,10 +12,11 @@ use Rattle.dali_record.specs.declared.records.Record.TheVariants.{Begin, Commit,
 use Rattle.dali_att.specs.declared.state.State.{State}
 use Rattle.dali_att.specs.declared.state.State.TheVariants.{Live, Dead, Cleaning, Committed}
 use Rattle.dali_system.specs.declared.causes.Cause.{Cause}
-use Rattle.dali_system.specs.State.{CoreState, TxnRow, row_of, state_in, state_of}
+use Rattle.dali_system.specs.State.{CoreState, row_of, state_of}
 use Rattle.dali_crash.specs.Checkpoints.{Point}
-use Rattle.dali_transcripts.specs.World.{Deed, Logs, DiesOn, Claims, GivesBack, Happening, World, record_of, logged_by, log_of, log_at, IsLogged, claimed, given_back, state_step, is_dead_in, HasDiedBy, HasEndedBy}
+use Rattle.dali_transcripts.specs.World.{Deed, Logs, DiesOn, Claims, GivesBack, Happening, World, record_of, logged_by, log_of, log_at, IsLogged, claimed, given_back, state_step, HasDiedBy, HasEndedBy}
 use Rattle.dali_transcripts.specs.Rounds.{by, IsBetween}
+use Rattle.dali_transcripts.proofs.Left.{is_left, DiedIn, left_by_deeds, dead_left, has_row}
 use Rattle.dali_deeds.specs.Tells.{after, Tells, Goes}
 use Rattle.dali_turns.specs.Stood.{HadRow}
 use Rattle.dali_turns.specs.Outside.{HasGone}
@@ -70,70 +71,6 @@ by_deeds t o (y ∷ ys) e =
     (λ kept. ⊎_elim (λ h. inl h) (λ later. inr (one_later t y ys later)) (by_deeds t (state_step t o y) ys kept))
     (λ here. inr (subst (λ (z : Happening). HasEndIn t (logged_by (z ∷ ys))) (sym here.1) (zero, refl)))
     (by_deed t o y e)
-
--- ---- who is dead or claimed was so, or its client died
-is_left : Option State → Bool
-is_left (Some (Dead latched)) = true
-is_left (Some (Cleaning latched)) = true
-is_left o = false
-
-left_chosen : (b : Bool) (p o : Option State) → is_left (if b then p else o) ≡ true → (is_left p ≡ true → is_left o ≡ true) → is_left o ≡ true
-left_chosen true p o e f = f e
-left_chosen false p o e f = e
-
-claimed_left : (o : Option State) → is_left (claimed o) ≡ true → is_left o ≡ true
-unfolding is_left
-claimed_left None e = e
-claimed_left (Some (Dead latched)) e = refl
-claimed_left (Some Live) e = e
-claimed_left (Some (Cleaning latched)) e = refl
-claimed_left (Some Committed) e = e
-
-given_left : (latched : Option ℕ) (o : Option State) → is_left (given_back latched o) ≡ true → is_left o ≡ true
-unfolding is_left
-given_left latched None e = e
-given_left latched (Some (Dead was)) e = refl
-given_left latched (Some Live) e = e
-given_left latched (Some (Cleaning was)) e = refl
-given_left latched (Some Committed) e = e
-
-abbrev IsDeath : ℕ → Happening → Type 0
-IsDeath t y = (c r : ℕ) × (y ≡ (DiesOn t r, c))
-
-died_one : (b : Bool) (t u r c : ℕ) (o : Option State) → (u == t) ≡ b → is_left (if b then Some (Dead (Some r)) else o) ≡ true → (is_left o ≡ true) ⊎ IsDeath t (DiesOn u r, c)
-died_one true t u r c o same e = inr (c, r, ap (λ k. (DiesOn k r, c)) (equal u t same))
-died_one false t u r c o same e = inl e
-
-left_by_deed : (t : ℕ) (o : Option State) (y : Happening) → is_left (state_step t o y) ≡ true → (is_left o ≡ true) ⊎ IsDeath t y
-unfolding is_left
-left_by_deed t o (Logs (Begin u), c) e = inl (left_chosen (u == t) (Some Live) o e (λ f. absurd (cc)))
-left_by_deed t o (Logs (Commit u), c) e = inl (left_chosen (u == t) (Some Committed) o e (λ f. absurd (cc)))
-left_by_deed t o (Logs (Ended u), c) e = inl (left_chosen (u == t) None o e (λ f. absurd (cc)))
-left_by_deed t o (DiesOn u r, c) e = died_one (u == t) t u r c o refl e
-left_by_deed t o (Claims u, c) e = inl (left_chosen (u == t) (claimed o) o e (claimed_left o))
-left_by_deed t o (GivesBack u latched, c) e = inl (left_chosen (u == t) (given_back latched o) o e (given_left latched o))
-left_by_deed t o y e = inl e
-
-abbrev DiedIn : ℕ → List Happening → Type 0
-DiedIn t xs = (i c r : ℕ) × (slice_get xs i ≡ Some (DiesOn t r, c))
-
-left_by_deeds : (t : ℕ) (o : Option State) (xs : List Happening) → is_left (fold (state_step t) o xs) ≡ true → (is_left o ≡ true) ⊎ DiedIn t xs
-left_by_deeds t o [] e = inl e
-left_by_deeds t o (y ∷ ys) e =
-    ⊎_elim
-    (λ before. ⊎_elim (λ h. inl h) (λ h. inr (zero, h.0, h.1, ap Some h.2)) (left_by_deed t o y before))
-    (λ later. inr (suc later.0, later.1, later.2, later.3))
-    (left_by_deeds t (state_step t o y) ys e)
-
-dead_left : (o : Option State) → is_dead_in o ≡ true → is_left o ≡ true
-unfolding is_left
-dead_left (Some (Dead latched)) e = refl
-dead_left o e = absurd (cc)
-
-left_row : (o : Option TxnRow) → is_left (state_in o) ≡ true → is_some o ≡ true
-unfolding is_left
-left_row None e = absurd (cc)
-left_row (Some row) e = refl
 
 -- ---- the world behind some deeds
 module _ (w : World) (c : ℕ) (ds : List Deed) (d : CoreState) where
@@ -192,7 +129,7 @@ module _ (w : World) (p : Point) (told : Tells w p) (began : IsBetween w.old) wh
       (left_by_deeds t (state_of w.old.system t) w.happened (ap is_left (sym (told.together.states t)) ∙ dead_left (state_of w.core.system t) dead)))
     where
       was : is_left (state_of w.old.system t) ≡ true → HasDiedBy (after w c ds d) t (length (log_of w))
-      was e = inl (began.idle (ran up) t (left_row (row_of w.old.system t) e))
+      was e = inl (began.idle (ran up) t (has_row (row_of w.old.system t) e))
 
       in_round : DiedIn t w.happened → HasDiedBy (after w c ds d) t (length (log_of w))
       in_round (i, e, r, at) =

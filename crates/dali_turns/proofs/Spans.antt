@@ -9,7 +9,7 @@ use Rattle.dali_record.specs.declared.records.Call.{Call}
 use Rattle.dali_record.specs.declared.records.Record.TheVariants.{Commit, Done, AuditBegin, AuditClean, AuditFail}
 use Rattle.dali_system.specs.declared.refusals.Refusal.{Refusal}
 use Rattle.dali_transcripts.specs.Words.{Why, StoppedBy, Full, Damaged, StoreFailed, UnderWay}
-use Rattle.dali_transcripts.specs.World.{Deed, Logs, Strays, DiesOn, Claims, GivesBack, GetsLock, Yields, FindsDead, StartsCheckpoint, MovesAnchor, EndsCheckpoint, Meets, Happening, World, span_step, under_way}
+use Rattle.dali_transcripts.specs.World.{Deed, Logs, DiesOn, Claims, GivesBack, GetsLock, Yields, FindsDead, StartsCheckpoint, EndsCheckpoint, Meets, Happening, World, span_step, under_way}
 use Rattle.dali_transcripts.specs.Moves.{Receipt, Spot, Ending, TakenBack, LeftBehind, Move, Answers, IsRefusedCall, Dies, GivesWay, GivesUp, Commits, Aborts, IsRefusedAbort, Ends, StaysOpen, Audits, IsRefusedAudit, FailsCheckpoint, IsRefusedCheckpoint, own, to, end_own, spanned, refused_own}
 use Rattle.dali_transcripts.specs.Causes.{IsCleanUp, IsAside, AreAside, IsAsking, AreAsking, IsWork, AreWork, IsTried, AreTried, IsBehind, AreBehind, IsCutAudit, IsCutBy, HasCause}
 use Rattle.dali_transcripts.specs.Transcripts.{IsPath, own_by, owned_one, owned, count_with, deeds_of}
@@ -39,26 +39,8 @@ unfolding if_mine
 span_goes c d StartsCheckpoint o b true e h is = refl
 span_goes c d StartsCheckpoint o b false e h is = let one : (d == c) ≡ true = ap (λ n. n == c) (some_same is) ∙ self c in let never : true ≡ false = sym one ∙ e in absurd (cc)
 span_goes c d EndsCheckpoint o b same e h is = let never : None ≡ Some c = is in absurd (cc)
-span_goes c d (Logs x) o b true e h is = h is
-span_goes c d (Logs x) o b false e h is = h is
-span_goes c d (Strays r word mask) o b true e h is = h is
-span_goes c d (Strays r word mask) o b false e h is = h is
-span_goes c d (DiesOn t r) o b true e h is = h is
-span_goes c d (DiesOn t r) o b false e h is = h is
-span_goes c d (Claims t) o b true e h is = h is
-span_goes c d (Claims t) o b false e h is = h is
-span_goes c d (GivesBack t latched) o b true e h is = h is
-span_goes c d (GivesBack t latched) o b false e h is = h is
-span_goes c d (Yields f) o b true e h is = h is
-span_goes c d (Yields f) o b false e h is = h is
-span_goes c d (GetsLock t k m) o b true e h is = h is
-span_goes c d (FindsDead f) o b true e h is = h is
-span_goes c d (GetsLock t k m) o b false e h is = h is
-span_goes c d (FindsDead f) o b false e h is = h is
-span_goes c d (MovesAnchor n) o b true e h is = h is
-span_goes c d (MovesAnchor n) o b false e h is = h is
-span_goes c d (Meets why) o b true e h is = h is
-span_goes c d (Meets why) o b false e h is = h is
+span_goes c d _ o b true e h is = h is
+span_goes c d _ o b false e h is = h is
 
 pub mine_too : (c n : ℕ) (xs : List Happening) (o : Option ℕ) (b : Bool) → (o ≡ Some c → b ≡ true) → fold span_step o xs ≡ Some c → fold marked b (owned c n xs) ≡ true
 mine_too c n [] o b h is = h is

@@ -2,6 +2,7 @@
 use Rattle.std.proofs.Common.{◌≡◌, ℕ, Bool, true, false, List, [], ◌∷◌, ◌++◌, length, fold, Option, Some, None, is_some, refl, ap, sym, subst, ◌∙◌, inl, arith}
 use Rattle.std.specs.Prelude.{◌||◌}
 use Rattle.std.proofs.lemmas.Bool.{ne_eqb}
+use Rattle.std.proofs.lemmas.List.{append-nil}
 use Rattle.std.proofs.lemmas.List.Sums.{fold-append}
 use Rattle.dali_lists.proofs.Options.{none_of_test, some_of_test}
 use Rattle.dali_record.specs.declared.records.Record.{Record}
@@ -33,18 +34,32 @@ use Rattle.dali_turns.specs.declared.client.Client.{Client}
 use Rattle.dali_turns.specs.declared.client.State.{State}
 use Rattle.dali_turns.specs.declared.client.State.TheVariants.{Outside, Copying}
 use Rattle.dali_turns.specs.Stood.{Stood}
+use Rattle.dali_turns.specs.Checkpoints.{IsMaking}
 use Rattle.dali_turns.specs.Outside.{FitsOutside}
 use Rattle.dali_turns.specs.Fits.{rest_of, lines_of, IsOf, Fits}
 use Rattle.dali_turns.specs.Goes.{Went}
-use Rattle.dali_turns.proofs.Refusals.{front, HasCauseNow, met_now, right_now, stop_now, may_say_more}
+use Rattle.dali_turns.proofs.Refusals.{front, HasCauseNow, met_now, right_now, stop_now, may_say_more, says_none}
 use Rattle.dali_turns.proofs.Auditing.{rows_same}
-use Rattle.dali_turns.proofs.Doing.{vault_stops, Did, did_nothing, did_meet, behind, ended, went_on, went_by, went_silent}
+use Rattle.dali_turns.proofs.Doing.{vault_stops, Did, did_nothing, did_meet, behind, ended, outside_by, went_on, went_by, went_silent}
 use Rattle.dali_turns.proofs.Coursing.{did_course}
 use Rattle.dali_turns.proofs.Spans.{none_under_way}
 
 -- what is under way behind more deeds
 pub under_then : (w : World) (c : ℕ) (ds : List Deed) (d : CoreState) → under_way (after w c ds d).happened ≡ fold span_step (under_way w.happened) (by c ds)
 under_then w c ds d = fold-append span_step None w.happened (by c ds)
+
+-- a checkpoint is made still behind a step that tells no deed
+pub making_on : (p q : Point) (w : World) (a : Standing) (acts rest : List Act) (own : List Receipt) → IsMaking p w a acts own → rest ≡ acts → q.core.system.checking ≡ true → IsMaking q (after w a.client [] q.core) (behind a w []) rest own
+making_on p q w a acts rest own m same flag = record {
+  more = m.more;
+  makes = same ∙ m.makes;
+  spot = m.spot ∙ ap (at (IsOutside false)) (sym same);
+  since = m.since;
+  pending = append-nil a.pending ∙ m.pending;
+  placed = subst (IsPlaced false) (sym same) m.placed;
+  flag = flag;
+  under = under_then w a.client [] q.core ∙ m.under;
+}
 
 module _ {V : Type 0} (told : V → Option Disk) (may_leave : V → Disk → Type 0) (faults : V → ℕ)
     (precheck : Bool) (s : Start) (B : List (List Record)) (p : Point) (w : World) (a : Standing) (gs : List RegionState) (y : SystemState) (v : Vaulted V) (k j : Client)
@@ -111,11 +126,7 @@ module _ {V : Type 0} (told : V → Option Disk) (may_leave : V → Disk → Typ
         (λ e. let no : true ≡ false = sym e ∙ runs in absurd (cc)) (λ t lives other. refl) (λ b other. refl) (λ set. let no : true ≡ false = sym set ∙ clear in absurd (cc))
 
     silent : fits.said ≡ false
-    silent = by_said fits.said refl
-      where
-        by_said : (b : Bool) → fits.said ≡ b → fits.said ≡ false
-        by_said true e = let some : is_some y.stop ≡ true = fits.may e in let none : is_some y.stop ≡ false = ap is_some stop in absurd (cc)
-        by_said false e = e
+    silent = says_none y fits.said fits.may stop
 
     pub starts : j.transcript ≡ k.transcript → rest_of j ≡ rest_of k → j.state ≡ Copying c 0 → Went told may_leave faults precheck s B p w a Outside gs y v true j gs z u
     starts same rest state =
@@ -194,13 +205,7 @@ module _ {V : Type 0} (told : V → Option Disk) (may_leave : V → Disk → Typ
     pub refused_start : j.transcript.client ≡ k.transcript.client → lines_of j ≡ lines_of k ++ Refused CheckpointAct r ∷ [] → rest_of j ≡ more → j.state ≡ Outside → Went told may_leave faults precheck s B p w a Outside gs y v true j gs y v
     refused_start client lines rest state =
         went_by told may_leave faults precheck s B B p p w a Outside gs gs y y v v (Meets r ∷ []) k j is met_did move spot_is own_is (h.cut (after w a.client (Meets r ∷ []) p.core), refl, (met_now w a.client p.core CheckpointAct None r h.cause, h.alone)) client lines
-        (subst (λ (x : State). Fits told may_leave faults s B p (after w a.client (Meets r ∷ []) p.core) gs y v (ended a move) (rest_of j) x) (sym state) (record {
-          said = fits.said || is_stop r;
-          may = may_say_more y fits.said r fits.may h.stops;
-          spot = ap (at (IsOutside (fits.said || is_stop r))) (sym rest);
-          none = refl;
-          placed = subst (IsPlaced false) (sym rest) placed;
-        }))
+        (subst (λ (x : State). Fits told may_leave faults s B p (after w a.client (Meets r ∷ []) p.core) gs y v (ended a move) (rest_of j) x) (sym state) (outside_by y a move (fits.said || is_stop r) more (rest_of j) rest (may_say_more y fits.said r fits.may h.stops) refl placed))
         (rows_same Outside j.state y y refl (λ t none. none))
 
     pub silent_start : j.transcript ≡ k.transcript → Went told may_leave faults precheck s B p w a Outside gs y v false j gs y v

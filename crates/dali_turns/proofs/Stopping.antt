@@ -25,7 +25,7 @@ use Rattle.dali_turns.specs.Fits.{rest_of, lines_of, IsOf, Fits}
 use Rattle.dali_turns.specs.Goes.{RowsTell, Went}
 use Rattle.dali_deeds.specs.Tells.{after}
 use Rattle.dali_turns.proofs.Refusals.{HasCauseNow, met_now, right_now, stop_now}
-use Rattle.dali_turns.proofs.Doing.{Did, vault_stops, did_meet, ended, went_by, went_silent}
+use Rattle.dali_turns.proofs.Doing.{Did, vault_stops, did_meet, ended, outside_by, went_by, went_silent}
 
 module _ {V : Type 0} (told : V → Option Disk) (may_leave : V → Disk → Type 0) (faults : V → ℕ)
     (precheck : Bool) (s : Start) (B : List (List Record)) (p : Point) (w : World) (a : Standing) (gs : List RegionState) (y : SystemState) (v : Vaulted V) (k j : Client) (x : Transaction)
@@ -59,13 +59,7 @@ module _ {V : Type 0} (told : V → Option Disk) (may_leave : V → Disk → Typ
     refused : j.transcript.client ≡ k.transcript.client → lines_of j ≡ lines_of k ++ said m → rest_of j ≡ more → j.state ≡ Outside → Went told may_leave faults precheck s B p w a (Within x) gs y v true j gs y v
     refused client lines rest state =
         went_by told may_leave faults precheck s B B p p w a (Within x) gs gs y y v v (Meets why ∷ []) k j is did m starts own_was caused client lines
-        (subst (λ (z : State). Fits told may_leave faults s B p here gs y v (ended a m) (rest_of j) z) (sym state) (record {
-          said = true;
-          may = λ e. ap is_some stop;
-          spot = ends ∙ ap (at (IsOutside true)) (sym rest);
-          none = refl;
-          placed = subst (IsPlaced false) (sym rest) placed;
-        }))
+        (subst (λ (z : State). Fits told may_leave faults s B p here gs y v (ended a m) (rest_of j) z) (sym state) (outside_by y a m true more (rest_of j) rest (λ e. ap is_some stop) ends placed))
         (rows j.state)
 
     unsaid : j.transcript ≡ k.transcript → Went told may_leave faults precheck s B p w a (Within x) gs y v false j gs y v

@@ -74,17 +74,7 @@ log_grown w x c ds g more =
 numbers_from : (n c : ℕ) (ds : List Deed) → numbers_of (receipts_from n ds) ≡ range_with_len n (length (logged_by (by c ds)))
 numbers_from n c [] = refl
 numbers_from n c (Logs x ∷ ds) = ap (λ l. n ∷ l) (numbers_from (n + 1) c ds)
-numbers_from n c (Strays r word mask ∷ ds) = numbers_from n c ds
-numbers_from n c (DiesOn t r ∷ ds) = numbers_from n c ds
-numbers_from n c (Claims u ∷ ds) = numbers_from n c ds
-numbers_from n c (GivesBack u latched ∷ ds) = numbers_from n c ds
-numbers_from n c (Yields f ∷ ds) = numbers_from n c ds
-numbers_from n c (GetsLock t k m ∷ ds) = numbers_from n c ds
-numbers_from n c (FindsDead f ∷ ds) = numbers_from n c ds
-numbers_from n c (StartsCheckpoint ∷ ds) = numbers_from n c ds
-numbers_from n c (MovesAnchor k ∷ ds) = numbers_from n c ds
-numbers_from n c (EndsCheckpoint ∷ ds) = numbers_from n c ds
-numbers_from n c (Meets why ∷ ds) = numbers_from n c ds
+numbers_from n c (_ ∷ ds) = numbers_from n c ds
 
 range_split : (n k m : ℕ) → range_with_len n (k + m) ≡ range_with_len n k ++ range_with_len (n + k) m
 range_split n zero m = let e : n + 0 ≡ n = omega arith in let f : 0 + m ≡ m = omega arith in ap (range_with_len n) f ∙ ap (λ k. range_with_len k m) (sym e)

@@ -41,7 +41,7 @@ use Rattle.dali_turns.specs.Goes.{Went}
 use Rattle.dali_turns.proofs.Auditing.{rows_same}
 use Rattle.dali_turns.proofs.Flushing.{has_stop}
 use Rattle.dali_turns.proofs.Beside.{is_beside, is_out_of, course_longer}
-use Rattle.dali_turns.proofs.Doing.{Did, did_then, ended, went_by, went_silent}
+use Rattle.dali_turns.proofs.Doing.{Did, did_then, ended, outside_by, went_by, went_silent}
 use Rattle.dali_turns.proofs.Coursing.{did_course}
 use Rattle.dali_turns.proofs.Ending.{ended_point, one_then, flushed_within, same_stable}
 use Rattle.dali_turns.proofs.Finishing.{stop_point, finish_point, stops_there, stopped_at, finishes_there, finished_at, faulted_at}
@@ -152,13 +152,7 @@ module _ {V : Type 0} (told : V → Option Disk) (may_leave : V → Disk → Typ
     pub verdict_fails : j.transcript.client ≡ k.transcript.client → lines_of j ≡ lines_of k ++ CheckpointFailed (r ∷ rs) ∷ [] → rest_of j ≡ fits.making.more → j.state ≡ Outside → Went told may_leave faults precheck s B p w a state gs y v true j gs x u
     verdict_fails client lines rest now =
         went_by told may_leave faults precheck s B f.batches p to w a state gs gs y x v u ds k j is whole move starts own_is flushed client lines
-        (subst (λ (m : State). Fits told may_leave faults s f.batches to (after w a.client ds to.core) gs x u (ended a move) (rest_of j) m) (sym now) (record {
-          said = false;
-          may = λ e. absurd (cc);
-          spot = ap (at (IsOutside false)) (sym rest);
-          none = refl;
-          placed = subst (IsPlaced false) (sym rest) placed;
-        }))
+        (subst (λ (m : State). Fits told may_leave faults s f.batches to (after w a.client ds to.core) gs x u (ended a move) (rest_of j) m) (sym now) (outside_by x a move false fits.making.more (rest_of j) rest (λ e. absurd (cc)) refl placed))
         (rows_same state j.state y x refl (λ n none. none))
 
     pub verdict_silent : j.transcript ≡ k.transcript → Went told may_leave faults precheck s B p w a state gs y v false j gs x u

@@ -16,7 +16,7 @@ use Rattle.dali_calls.specs.Plans.{Planned, plan_next, is_back, undo_next}
 use Rattle.dali_calls.proofs.Wholes.{back_next}
 use Rattle.dali_calls.proofs.Following.{drop_append}
 use Rattle.dali_stepwise.specs.Opened.{IsLogged, record_on}
-use Rattle.dali_transcripts.specs.World.{Deed, Logs, Strays, DiesOn, Claims, GivesBack, GetsLock, Yields, FindsDead, StartsCheckpoint, MovesAnchor, EndsCheckpoint, Meets, logged_by}
+use Rattle.dali_transcripts.specs.World.{Deed, Logs, logged_by}
 use Rattle.dali_transcripts.specs.Moves.{Receipt}
 use Rattle.dali_transcripts.specs.Causes.{undos_by, undos_behind}
 use Rattle.dali_transcripts.specs.Laws.{receipts_from}
@@ -39,17 +39,7 @@ undone_on t us vs xs ys e none = undone_then t us vs xs ys e ∙ none vs
 pub undone_by_log : (t c n : ℕ) (us : List Pending) (ds : List Deed) → undos_behind t us (receipts_from n ds) ≡ fold (undo_step t) us (logged_by (by c ds))
 undone_by_log t c n us [] = refl
 undone_by_log t c n us (Logs x ∷ ds) = undone_by_log t c (n + 1) (undo_step t us x) ds
-undone_by_log t c n us (Strays r word mask ∷ ds) = undone_by_log t c n us ds
-undone_by_log t c n us (DiesOn u r ∷ ds) = undone_by_log t c n us ds
-undone_by_log t c n us (Claims u ∷ ds) = undone_by_log t c n us ds
-undone_by_log t c n us (GivesBack u o ∷ ds) = undone_by_log t c n us ds
-undone_by_log t c n us (Yields f ∷ ds) = undone_by_log t c n us ds
-undone_by_log t c n us (GetsLock u k m ∷ ds) = undone_by_log t c n us ds
-undone_by_log t c n us (FindsDead f ∷ ds) = undone_by_log t c n us ds
-undone_by_log t c n us (StartsCheckpoint ∷ ds) = undone_by_log t c n us ds
-undone_by_log t c n us (MovesAnchor m ∷ ds) = undone_by_log t c n us ds
-undone_by_log t c n us (EndsCheckpoint ∷ ds) = undone_by_log t c n us ds
-undone_by_log t c n us (Meets why ∷ ds) = undone_by_log t c n us ds
+undone_by_log t c n us (_ ∷ ds) = undone_by_log t c n us ds
 
 -- takings back of another transaction
 backs_apart : (t m : ℕ) (us : List Pending) (xs : List Record) → (t == m) ≡ false → AreBacks t xs → fold (undo_step m) us xs ≡ us

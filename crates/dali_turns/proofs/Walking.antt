@@ -19,9 +19,9 @@ use Rattle.dali_parts.proofs.Vaults.{step_has_vault}
 use Rattle.dali_crash.specs.Checkpoints.{StoreStep, Does, Point, IsPointStep, IsPointCourse, is_of_checkpoint, copies_after}
 use Rattle.dali_crash.specs.Traces.{Start, bases_of}
 use Rattle.dali_vault.specs.Vaulted.{Vaulted}
-use Rattle.dali_single.specs.Operated.{IsOwn}
+use Rattle.dali_calls.specs.Operating.{IsOwn}
+use Rattle.dali_calls.specs.Others.{is_apart}
 use Rattle.dali_single.specs.Single.{IsOwnStep, Leads, is_end}
-use Rattle.dali_stepwise.specs.Beside.{is_apart}
 use Rattle.dali_stepwise.proofs.Waiting.{own_apart}
 use Rattle.dali_steps.specs.Courses.{is_quiet, calls_none}
 use Rattle.dali_steps.proofs.Courses.{came_same, vault_same, both_true}

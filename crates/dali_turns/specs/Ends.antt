@@ -12,9 +12,10 @@ use Rattle.dali_store.specs.Store.{Files as Disk}
 use Rattle.dali_system.specs.declared.causes.Cause.{Cause}
 use Rattle.dali_system.specs.State.{SystemState, state_of}
 use Rattle.dali_vault.specs.Vaulted.{Vaulted}
+use Rattle.dali_calls.specs.Others.{IsGone}
 use Rattle.dali_single.specs.Ending.{IsBackOf}
 use Rattle.dali_clean.specs.Cleaned.{AreDead, Ends, GivesBack}
-use Rattle.dali_clean.specs.Others.{OthersStay, IsGone}
+use Rattle.dali_clean.specs.Others.{OthersStay}
 use Rattle.dali_ends.specs.Ended.{Comes}
 use Rattle.dali_clients.specs.declared.command.Command.{Command}
 use Rattle.dali_clients.specs.declared.command.Command.TheVariants.{Abort}

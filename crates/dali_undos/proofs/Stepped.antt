@@ -4,7 +4,7 @@
 use Rattle.std.proofs.Common.{◌≡◌, ℕ, Bool, true, false, List, [], ◌∷◌, ◌++◌, length, Option, Some, None, refl, ap, sym, subst, ◌∙◌, ◌⊎◌, inl, inr, ⊎_elim, ◌≢◌, append-nil}
 use Rattle.std.specs.Prelude.{◌==◌, ◌||◌}
 use Rattle.std.proofs.lemmas.Bool.Decides.{eqb_tells}
-use Rattle.std.proofs.lemmas.Bool.{ne_eqb, both_ways}
+use Rattle.std.proofs.lemmas.Bool.{both_ways}
 use Rattle.dali_lists.proofs.Options.{some_of}
 use Rattle.dali_geometry.specs.Sizes.{Sizes}
 use Rattle.dali_record.specs.declared.operations.Undo.{Undo}
@@ -35,8 +35,8 @@ use Rattle.dali_kept.proofs.Invariant.{Knows, yields_left}
 use Rattle.dali_kept.proofs.OperationsKeep.{Forwards, forward_is}
 use Rattle.dali_kept.proofs.BacksKeep.{BackStep, back_finds, taken_back}
 use Rattle.dali_kept.proofs.SolosKeep.{frees_dead}
-use Rattle.dali_kept.proofs.InvariantAlong.{state_beside, forward_state, back_state, region_within, image_region, does_of, is_of_is}
-use Rattle.dali_kept.proofs.InvariantSteps.{Fine, Along, fine_before, state_step, sound_changes, undone_changes, frees_is, solo_state, frees_slot}
+use Rattle.dali_kept.proofs.InvariantAlong.{forward_state, back_state, region_within, image_region, does_of, is_of_is}
+use Rattle.dali_kept.proofs.InvariantSteps.{Fine, Along, fine_before, block_takes_back, state_step, frees_is, solo_state, frees_slot}
 use Rattle.dali_kept.proofs.KnownTxns.{back_is, committed_has}
 use Rattle.dali_undos.proofs.After.{one, one_on, one_off}
 
@@ -169,17 +169,7 @@ takes_back s base cuts J u b h along = go (some_of (kept_state s u J) (old.calls
                 is = is_of_is (undo_op p.0.undo) p.0 b p.2
 
                 step : BackStep s cuts J u b z.0 p.0
-                step = record {
-                  knows = along.known;
-                  before = x.1 ∙ ap (λ o. Some o) z.1;
-                  after = y.1 ∙ ap (λ o. Some o) (sym p.3);
-                  beside = λ v apart. state_beside s v J (Back u b) (old.calls.txns v) (ne_eqb u v (λ i. apart (sym i)));
-                  last = p.1;
-                  on = is.0;
-                  changes = sound_changes (words_in (redo_all base J) b.region) b (undo_op p.0.undo) sound is.2 (undone_changes p.0.undo b.key (words_in (redo_all base J) b.region));
-                  locks = h.locks;
-                  uncut = old.uncut;
-                }
+                step = block_takes_back s base cuts J u b z.0 p.0 h along (x.1 ∙ ap (λ o. Some o) z.1) (y.1 ∙ ap (λ o. Some o) (sym p.3)) p.1 is
 
                 finds : Rattle.dali_slots.proofs.SlotUndos.Finds s p.0 (part s (redo_all base J) p.0.key)
                 finds = back_finds s cuts J (part s (redo_all base J)) (part s (redo_all base (J ++ Back u b ∷ []))) (flags (redo_all base J)) u b z.0 p.0 step (map_of s base p.0.key) (along.keyed p.0.key)

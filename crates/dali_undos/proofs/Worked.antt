@@ -15,14 +15,9 @@ entry_stands (suc (suc (suc zero))) lt le = omega arith
 entry_stands (suc (suc (suc (suc j)))) lt le = absurd (omega (arith, le))
 
 change_stands : (j : ℕ) → 5 < j → j ≤ 6 → 0 < length (undos_of 2 (take j records))
-change_stands zero lt le = absurd (omega (arith, lt))
-change_stands (suc zero) lt le = absurd (omega (arith, lt))
-change_stands (suc (suc zero)) lt le = absurd (omega (arith, lt))
-change_stands (suc (suc (suc zero))) lt le = absurd (omega (arith, lt))
-change_stands (suc (suc (suc (suc zero)))) lt le = absurd (omega (arith, lt))
-change_stands (suc (suc (suc (suc (suc zero))))) lt le = absurd (omega (arith, lt))
 change_stands (suc (suc (suc (suc (suc (suc zero)))))) lt le = omega arith
 change_stands (suc (suc (suc (suc (suc (suc (suc j))))))) lt le = absurd (omega (arith, le))
+change_stands _ lt le = absurd (omega (arith, lt))
 
 entry_left : IsAsLeft (formatted_image small) first_records 1 1 added (moment (image_of first_records) first_records [] 1 1)
 unfolding entry.entries cell.cells

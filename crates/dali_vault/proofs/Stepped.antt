@@ -7,11 +7,12 @@ use Rattle.dali_counts.proofs.SmallLogs.{is_small}
 use Rattle.dali_batch.specs.Batch.{Framed, batches}
 use Rattle.dali_batch.specs.Appending.{bodies_of}
 use Rattle.dali_batch.specs.Log.{AreSpelled, body_bytes}
+use Rattle.dali_batch.proofs.Bytes.{batches_length}
 use Rattle.dali_system.specs.State.{VaultState, taken_to, stable, log_after}
 use Rattle.dali_system.specs.Run.{HasRisen}
 use Rattle.dali_system.specs.Flushes.{frame_of, with_vault, longer, faulted as faulted_in, read_failed}
 use Rattle.dali_system.proofs.Flushes.{length-frame}
-use Rattle.dali_traces.proofs.Bridges.{batches_length, frame_bodies, frames, frames_spelled, frame_spelled}
+use Rattle.dali_traces.proofs.Bridges.{frame_bodies, frames, frames_spelled, frame_spelled}
 use Rattle.dali_vault.specs.Vaulted.{Vaulted, grown}
 use Rattle.dali_vault.specs.Stepped.{counted_then, vault_in, BeginsRight, IsFrameOf, FlushIsStep, FaultIsStep, ReadFailIsStep, TurnIsCounted, OthersLeave}
 

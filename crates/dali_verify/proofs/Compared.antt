@@ -5,8 +5,8 @@ use Rattle.std.specs.Prelude.{◌↔◌, nat_eq, Contains, ◌==◌, ◌&&◌, I
 use Rattle.std.specs.declared.cmp.Ordering.TheVariants.{Less}
 use Rattle.std.specs.declared.cmp.Ordering.{Ordering}
 use Rattle.std.specs.Ordering.{nat_cmp, ordering_then}
-use Rattle.std.specs.Cmp.{first_so, second_so, IsTotalOrder, then_total, on_total, nat_cmp_total}
-use Rattle.std.specs.Cmp.Lexicographic.{slice_cmp, pointwise, bytes_decides, nat_list_cmp_total}
+use Rattle.std.specs.Cmp.{IsTotalOrder, nat_cmp_total}
+use Rattle.std.specs.Cmp.Lexicographic.{slice_cmp, pointwise, bytes_decides}
 use Rattle.std.specs.List.{AllByRecursion}
 use Rattle.std.specs.List.Sorted.{IsStrictlySortedBy, IsStrictlyIncreasing}
 use Rattle.std.specs.Map.{keys_of, lookup}
@@ -27,7 +27,7 @@ use Rattle.dali_replay.specs.Replayed.{Replayed, IsReplay}
 use Rattle.dali_replay.proofs.Replays.{find_lookup}
 use Rattle.dali_listing.specs.declared.Listed.{Listed}
 use Rattle.dali_listing.specs.Listing.{pair_of, pairs_of, order, IsListing}
-use Rattle.dali_listing.proofs.Sorted.{in_pairs, pairs_in, one_row}
+use Rattle.dali_listing.proofs.Sorted.{in_pairs, pairs_in, row_of, alike, alike_is_one, in_order}
 use Rattle.dali_verify.specs.Verified.{told_deleted, HoldsJust, IsVerified}
 
 -- ---- lists that ascend and have the same members
@@ -43,19 +43,6 @@ same_sorted {K = K} {R = R} total exact xs ys up vp same =
     exact
 
 -- ---- rows
-abbrev row_of : ℕ × List ℕ → Listed
-row_of p = record { key = p.0; value = p.1 }
-
-abbrev alike : Listed → Listed → Bool
-alike x y = (x.key == y.key) && pointwise nat_eq x.value y.value
-
-alike_is_one : (x y : Listed) → alike x y ≡ true → x ≡ y
-alike_is_one x y h = one_row x y (same_key (eqb_tells x.key y.key)) ((bytes_decides x.value y.value).0 (second_so (x.key == y.key) (pointwise nat_eq x.value y.value) h))
-  where
-    same_key : (((x.key == y.key) ≡ true) × (x.key ≡ y.key)) ⊎ (((x.key == y.key) ≡ false) × (x.key ≢ y.key)) → x.key ≡ y.key
-    same_key (inl a) = a.1
-    same_key (inr a) = absurd (true≢false (sym (first_so (x.key == y.key) (pointwise nat_eq x.value y.value) h) ∙ a.0))
-
 one_is_alike : (x y : Listed) → x ≡ y → alike x y ≡ true
 one_is_alike x y e = subst (λ z. alike x z ≡ true) e (both (eqb_tells x.key x.key) ((bytes_decides x.value x.value).1 refl))
   where
@@ -65,9 +52,6 @@ one_is_alike x y e = subst (λ z. alike x z ≡ true) e (both (eqb_tells x.key x
 
 pub rows_decide : (x y : Listed) → (alike x y ≡ true → x ≡ y) × (x ≡ y → alike x y ≡ true)
 rows_decide x y = (alike_is_one x y, one_is_alike x y)
-
-in_order : IsTotalOrder order
-in_order = then_total (on_total (λ (row : Listed). row.key) nat_cmp_total) (on_total (λ (row : Listed). row.value) nat_list_cmp_total)
 
 exact_rows : CmpEqualImpliesEq order
 exact_rows x y e = ap row_of (exact_pairs nat_cmp (slice_cmp nat_cmp) exact_unsigned exact_bytes (pair_of x) (pair_of y) e)

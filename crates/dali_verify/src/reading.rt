@@ -2,16 +2,16 @@
 ghost use Rattle.std.specs.Prelude.{◌≡◌, ◌<◌, ◌≤◌, ◌+◌, ◌^◌, ◌++◌, ◌∷◌, [], ℕ, List, length, drop, true, false, IfOk, IfErr, OnOk, IfSome, IsNone, IsErrOf};
 ghost use Rattle.dali_store.specs.Faults.{Rose};
 ghost use Rattle.dali_record.specs.declared.records.Record.{Record};
-ghost use Rattle.dali_record.specs.Spelling.{CanBeSpelled, spelling};
+ghost use Rattle.dali_record.specs.Spelling.{CanBeSpelled};
 ghost use Rattle.dali_batch.specs.Batch.{IsUnformatted};
-ghost use Rattle.dali_batch.specs.Log.{BadAt, BadFrom, HasNoFormat, IsFront, NoRecordAt, TailOf, body_bytes, records_in};
+ghost use Rattle.dali_batch.specs.Log.{BadAt, BadFrom, IsFront, NoRecordAt, TailOf, body_bytes, records_in};
 ghost use Rattle.dali_batch.specs.Reads.{OnlyReads};
 ghost use Rattle.dali_vault.specs.Vaulted.{with_store};
 ghost use Rattle.dali_verify.specs.Verified.{Spell, IsInFile, IsWholeLog};
 ghost use Rattle.dali_verify.specs.declared.error.VerifyError.TheVariants as errors;
 
 use crate::error::VerifyError;
-use dali_batch::{BatchError, Found};
+use dali_batch::{BatchError, Found, format_of};
 use dali_bytes::Reader;
 use dali_core::System;
 use dali_record::{DecodeError, Record, decode};
@@ -54,33 +54,6 @@ fn add_records(
         }
     }
     Ok(())
-}
-
-// The sizes in a Format.
-fn sizes_of(entry: &Record) -> Option<(u32, u32)>
-    ensures some { IfSome result (λ sizes. entry.now ≡ Record.Format sizes.0 sizes.1) }
-    ensures none { IsNone result → (index heap : ℕ) → entry.now ≡ Record.Format index heap → ⊥ }
-{
-    match entry {
-        Record::Format { index, heap } => Some((*index, *heap)),
-        _ => None,
-    }
-}
-
-// The sizes in bytes that spell the one record Format, else none.
-fn format_of(alloc: Global, bytes: &[u8]) -> Option<(u32, u32)>
-    ensures some { IfSome result (λ sizes. CanBeSpelled (Record.Format sizes.0 sizes.1) × (bytes.now ≡ spelling (Record.Format sizes.0 sizes.1))) }
-    ensures none { IsNone result → HasNoFormat bytes.now }
-{
-    let mut reader = Reader::new(bytes);
-    let entry = match decode(alloc, &mut reader) {
-        Ok(entry) => entry,
-        Err(_) => return None,
-    };
-    if reader.left() > 0 {
-        return None;
-    }
-    sizes_of(&entry)
 }
 
 // Whether the log has fewer than two bytes: it is bad at place 1 itself there.

@@ -8,6 +8,7 @@ use Rattle.dali_store.specs.declared.store.FileName.{FileName}
 use Rattle.dali_store.specs.declared.store.FileName.TheVariants.{Log, ImageA, ImageB, Anchor}
 use Rattle.dali_store.specs.Store.{Files as Disk, TornIn, TornTold}
 use Rattle.dali_traces.specs.Disks.{image_file}
+use Rattle.dali_vault.specs.Vaulted.{Vaulted}
 use Rattle.dali_calls.specs.Flags.{FlagsStay}
 use Rattle.dali_whole.specs.Cores.{HoldsPlaces, NoShorter}
 
@@ -51,6 +52,10 @@ then_length None None q s t = t
 pub unless_stopped : (b : Bool) (o p : Option Disk) → (b ≡ true → p ≡ o) → (b ≡ false → NoShorter o p) → NoShorter o p
 unless_stopped true o p s t = same_length o p (s refl)
 unless_stopped false o p s t = t refl
+
+pub torn_unless_stopped : {V : Type 0} (told : V → Option Disk) (v w : Vaulted V) (f : FileName) (at n : ℕ) → (v.stopped ≡ true → w ≡ v) → (v.stopped ≡ false → TornTold f at n (told v.store) (told w.store)) → NoShorter (told v.store) (told w.store)
+torn_unless_stopped {V} told v w f at n same torn =
+    unless_stopped v.stopped (told v.store) (told w.store) (λ stopped. ap (λ (z : Vaulted V). told z.store) (same stopped)) (λ runs. torn_length f at n (told v.store) (told w.store) (torn runs))
 
 places_one : (gs : List RegionState) (a b : Disk) → ((side : Side) → length (image_file side a) ≤ length (image_file side b)) → HoldsPlaces gs a → HoldsPlaces gs b
 places_one gs a b s holds = λ side r g at clean. omega (arith, s side, holds side r g at clean)

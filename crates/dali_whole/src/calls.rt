@@ -1,5 +1,5 @@
-//! The calls of a vault as `dali_steps` has them, with how many calls of the store each makes. Each is the vault's call and
-//! nothing else.
+//! The calls of a vault that write, with what they say as the laws of `dali_steps` ask for it, at each moment of the call
+//! too (`any_moment`), and with how many calls of the store each makes. Each is the vault's call and nothing else.
 ghost use Rattle.std.specs.Prelude.{◌≡◌, ◌==◌, ◌≤◌, ◌<◌, ◌+◌, ◌^◌, true, false, if◌then◌else◌, Err, OnOk, OnErr, IfSome, IsErrOf, length};
 ghost use Rattle.dali_store.specs.declared.store.FileName.TheVariants.{Anchor, Log};
 ghost use Rattle.dali_store.specs.Calls.{fewer, one_less};

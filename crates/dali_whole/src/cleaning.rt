@@ -3,9 +3,10 @@ ghost use Rattle.std.specs.Prelude.{◌≡◌, Some, None, Err, IfSome, IfNone, 
 ghost use Rattle.dali_att.specs.declared.state.State.TheVariants.{Dead};
 ghost use Rattle.dali_system.specs.State.{state_of};
 ghost use Rattle.dali_calls.specs.Flags.{FlagsStay};
+ghost use Rattle.dali_calls.specs.Others.{PromisesStay, IsGone};
 ghost use Rattle.dali_clean.specs.declared.error.CleanError.TheVariants.{NotDead as IsNotDead, Stopped, OutOfMemory};
 ghost use Rattle.dali_clean.specs.Cleaned.{AreDead, MayClean, IsDead, Ends, GivesBack};
-ghost use Rattle.dali_clean.specs.Others.{OthersStay, PromisesStay, IsGone, HasKept};
+ghost use Rattle.dali_clean.specs.Others.{OthersStay, HasKept};
 ghost use Rattle.dali_whole.specs.Cleaned.{EndsAt, LeavesAt};
 
 use crate::whole::Core;

@@ -157,10 +157,18 @@ fn crosses_threads<V: Store + Send>(core: Core<V>) -> Core<V>
     }
 }
 
+// What a core tells once it was given to a thread.
+fn seen_across_threads(alloc: Global) -> Option<(Option<Cause>, bool, u64, usize, u64)> {
+    let core = crosses_threads(begun(alloc, 50)?);
+    Some(seen(&core))
+}
+
 #[test]
 fn a_core_may_be_given_to_a_thread(rt: HostRuntime) -> Result<(), Fail> {
-    let core = crosses_threads(begun(rt.alloc(), 50).ok_or("no core")?);
-    assert_eq!(rt; seen(&core), (None, false, 0, 9, 15));
+    assert_eq!(rt;
+        seen_across_threads(rt.alloc()),
+        Some((None, false, 0, 9, 15))
+    );
     Ok(())
 }
 
@@ -245,17 +253,16 @@ fn die_and_clean(
 #[test]
 fn a_dead_transaction_of_a_core_is_cleaned_up(rt: HostRuntime) -> Result<(), Fail> {
     let alloc = rt.alloc();
-    assert_eq!(rt;
-        die_and_clean(alloc, 50),
-        Some((Ok(()), None, (None, false, 2, 0, 43)))
-    );
     let stopped = CleanError::Stopped {
         cause: Cause::Store,
     };
     let dead = Some(State::Dead { latched: None });
     assert_eq!(rt;
-        die_and_clean(alloc, 2),
-        Some((Err(stopped), dead, (Some(Cause::Store), true, 0, 0, 15)))
+        (die_and_clean(alloc, 50), die_and_clean(alloc, 2)),
+        (
+            Some((Ok(()), None, (None, false, 2, 0, 43))),
+            Some((Err(stopped), dead, (Some(Cause::Store), true, 0, 0, 15)))
+        )
     );
     Ok(())
 }

@@ -27,14 +27,7 @@ AreBytes xs = All (λ b. b < 256) xs
 first_word : (xs : List ℕ) → 8 ≤ length xs → AreBytes xs → bytes_of_word (number_after 0 (take 8 xs)) ≡ take 8 xs
 first_word (a ∷ b ∷ c ∷ d ∷ e ∷ f ∷ g ∷ h ∷ xs) long all =
     eight_bytes a b c d e f g h (all 0 0 (omega arith)) (all 1 0 (omega arith)) (all 2 0 (omega arith)) (all 3 0 (omega arith)) (all 4 0 (omega arith)) (all 5 0 (omega arith)) (all 6 0 (omega arith)) (all 7 0 (omega arith))
-first_word [] long all = absurd (omega arith)
-first_word (a ∷ []) long all = absurd (omega arith)
-first_word (a ∷ b ∷ []) long all = absurd (omega arith)
-first_word (a ∷ b ∷ c ∷ []) long all = absurd (omega arith)
-first_word (a ∷ b ∷ c ∷ d ∷ []) long all = absurd (omega arith)
-first_word (a ∷ b ∷ c ∷ d ∷ e ∷ []) long all = absurd (omega arith)
-first_word (a ∷ b ∷ c ∷ d ∷ e ∷ f ∷ []) long all = absurd (omega arith)
-first_word (a ∷ b ∷ c ∷ d ∷ e ∷ f ∷ g ∷ []) long all = absurd (omega arith)
+first_word _ long all = absurd (omega arith)
 
 word_bytes : (xs : List ℕ) (i : ℕ) → 8 * i + 8 ≤ length xs → AreBytes xs → bytes_of_word (word_at xs i) ≡ take 8 (drop (8 * i) xs)
 word_bytes xs i long all = first_word (drop (8 * i) xs) (omega (arith, length-drop (8 * i) xs)) (All-drop (λ b. b < 256) (8 * i) xs all)

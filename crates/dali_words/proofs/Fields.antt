@@ -13,14 +13,7 @@ eight a b c d e f g h xs = omega arith
 
 number_is : (xs : List ℕ) → 8 ≤ length xs → big_from 0 8 xs ≡ number_after 0 (take 8 xs)
 number_is (a ∷ b ∷ c ∷ d ∷ e ∷ f ∷ g ∷ h ∷ xs) long = eight a b c d e f g h xs
-number_is [] long = absurd (omega arith)
-number_is (a ∷ []) long = absurd (omega arith)
-number_is (a ∷ b ∷ []) long = absurd (omega arith)
-number_is (a ∷ b ∷ c ∷ []) long = absurd (omega arith)
-number_is (a ∷ b ∷ c ∷ d ∷ []) long = absurd (omega arith)
-number_is (a ∷ b ∷ c ∷ d ∷ e ∷ []) long = absurd (omega arith)
-number_is (a ∷ b ∷ c ∷ d ∷ e ∷ f ∷ []) long = absurd (omega arith)
-number_is (a ∷ b ∷ c ∷ d ∷ e ∷ f ∷ g ∷ []) long = absurd (omega arith)
+number_is _ long = absurd (omega arith)
 
 -- the words that are read from 40 bytes
 pub words_are : (bs ws : List ℕ) → length bs ≡ 40 → length ws ≡ 5 → IsRead big_number 8 bs ws → ws ≡ word_at bs 0 ∷ word_at bs 1 ∷ word_at bs 2 ∷ word_at bs 3 ∷ word_at bs 4 ∷ []
@@ -28,12 +21,7 @@ words_are bs (a ∷ b ∷ c ∷ d ∷ e ∷ []) long five read = let e0 = at 0 (
   where
     at : (k : ℕ) → k < 5 → get_or (a ∷ b ∷ c ∷ d ∷ e ∷ []) k 0 ≡ word_at bs k
     at k h = read k h ∙ number_is (drop (8 * k) bs) (omega (arith, length-drop (8 * k) bs))
-words_are bs [] long five read = absurd (omega arith)
-words_are bs (a ∷ []) long five read = absurd (omega arith)
-words_are bs (a ∷ b ∷ []) long five read = absurd (omega arith)
-words_are bs (a ∷ b ∷ c ∷ []) long five read = absurd (omega arith)
-words_are bs (a ∷ b ∷ c ∷ d ∷ []) long five read = absurd (omega arith)
-words_are bs (a ∷ b ∷ c ∷ d ∷ e ∷ f ∷ ws) long five read = absurd (omega arith)
+words_are bs _ long five read = absurd (omega arith)
 
 pub packs : (count : ℕ) (bs ws v : List ℕ) → count ≤ 40 → length bs ≡ 40 → bs ≡ take count bs ++ replicate (40 - count) 0 → take count bs ≡ v → length ws ≡ 5 → IsRead big_number 8 bs ws → ws ≡ packed v
 packs count bs ws v few long whole is five read =

@@ -6,3 +6,4 @@ pub mod Rows
 pub mod Bytes
 pub mod Lowest
 pub mod Fields
+pub mod Widths

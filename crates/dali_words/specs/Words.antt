@@ -6,7 +6,10 @@
 --     mask_of is                 the set of the words with these numbers
 --     row_of k n                 the numbers of n words in a row, from k on
 --     AgreeUnder m ws us         as many words, with the same words in the set m
-use Rattle.std.specs.Prelude.{◌≡◌, ℕ, zero, suc, ◌+◌, ◌^◌, ◌/◌, ◌%◌, Bool, List, [], ◌∷◌, if◌then◌else◌, ◌==◌, bit_xor, bit_or, fold, length, slice_index}
+--     AreWords ws                the words of a region: 64 numbers of 64 bits
+--     AllAreWords image          the regions of an image: each is the words of a region
+use Rattle.std.specs.Prelude.{◌≡◌, ℕ, zero, suc, ◌+◌, ◌<◌, ◌^◌, ◌/◌, ◌%◌, Bool, List, [], ◌∷◌, if◌then◌else◌, ◌==◌, bit_xor, bit_or, fold, length, slice_index}
+use Rattle.std.specs.List.{AllByRecursion}
 use Rattle.std.specs.Int.{bit_at}
 
 abbrev pub parity_of : List ℕ → ℕ
@@ -45,3 +48,9 @@ row_of k (suc n) = k ∷ row_of (k + 1) n
 pub record AgreeUnder (m : ℕ) (ws us : List ℕ) : Type 0 where
   pub count : length ws ≡ length us
   pub same : (i : ℕ) → bit_at m i ≡ 1 → slice_index ws i ≡ slice_index us i
+
+abbrev pub AreWords : List ℕ → Type 0
+AreWords ws = (length ws ≡ 64) × AllByRecursion (λ w. w < 2 ^ 64) ws
+
+abbrev pub AllAreWords : List (List ℕ) → Type 0
+AllAreWords image = AllByRecursion AreWords image

@@ -1,6 +1,7 @@
 //! Stores of which a restart is told, and what it says of them, as texts.
 ghost use Rattle.std.specs.Prelude.{◌≤◌, ◌<◌};
 
+use super::worked::lines_of;
 use anyhow::Result;
 use dali_geometry::Geometry;
 use dali_memstore::MemoryStore;
@@ -15,35 +16,26 @@ const KEYS: u64 = 32;
 
 const LIMIT: u64 = 100_000;
 
-fn digit(byte: u8) -> u8
-    ensures { result ≤ 15 }
-{
-    match byte {
-        b'0'..=b'9' => byte - b'0',
-        b'a'..=b'f' => byte - b'a' + 10,
-        _ => 0,
-    }
-}
-
-// Adds bytes in base 16.
-fn add_digits(digits: &[u8], bytes: &mut Vec<u8>) -> Result<()> {
-    for i in 0..digits.len() / 2 {
-        bytes.push(16 * digit(digits[2 * i]) + digit(digits[2 * i + 1]))?;
+// Adds the bytes of a word: digits in base 16, `*N` for so many zeros, or `*NxDIGITS` for so many times these bytes.
+fn add_word(alloc: Global, word: &str, bytes: &mut Vec<u8>) -> Result<()> {
+    let Some(repeated) = word.strip_prefix('*') else {
+        bytes.extend_from_slice(&hex::decode(alloc, word)?)?;
+        return Ok(());
+    };
+    let (times, digits) = repeated.split_once('x').unwrap_or((repeated, "00"));
+    let part = hex::decode(alloc, digits)?;
+    for _ in 0..times.parse::<u32>()? {
+        bytes.extend_from_slice(&part)?;
     }
     Ok(())
 }
 
-// The bytes of a text: words of digits in base 16, and `*N` for so many zeros.
+// The bytes of a text: lines of words, or the names of such lines.
 fn bytes_of(alloc: Global, text: &str) -> Result<Vec<u8>> {
     let mut bytes = Vec::new(alloc);
-    for word in text.split_ascii_whitespace() {
-        match word.strip_prefix('*') {
-            Some(zeros) => {
-                for _ in 0..zeros.parse::<u32>()? {
-                    bytes.push(0)?;
-                }
-            }
-            None => add_digits(word.as_bytes(), &mut bytes)?,
+    for line in text.lines() {
+        for word in lines_of(line).split_ascii_whitespace() {
+            add_word(alloc, word, &mut bytes)?;
         }
     }
     Ok(bytes)

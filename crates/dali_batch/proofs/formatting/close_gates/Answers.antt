@@ -1,47 +1,19 @@
 use Rattle.dali_store.specs.Store.{Files}
 use Rattle.std.proofs.Common.{sym, IfSome}
 use Rattle.dali_batch.specs.Batch.{IsClosedAt}
-use Rattle.dali_store.proofs.Moments.{goes_on, if_some_with, moved}
-use Rattle.dali_batch.specs.Formatting.{CloseLeaves, AreClosed}
-use Rattle.dali_batch.proofs.Formats.{close_anchor_crash, both_closed}
+use Rattle.dali_store.proofs.Moments.{if_some_with, moved}
+use Rattle.dali_batch.specs.Formatting.{AreClosed}
+use Rattle.dali_batch.proofs.Formats.{both_closed, anchor_run, anchor_synced}
 use Rattle.dali_batch.proofs.formatting.close_gates.Goals as goal
 
 pub returns-in_err-write_at-clause-any_moment : goal.returns-in_err-write_at-clause-any_moment
-returns-in_err-write_at-clause-any_moment g c =
-    let s0 = c.args.store.now in
-    let s1 = c.close_log.new.store in
-    let may = g.V.Store.may_leave in
-    let P = CloseLeaves (may s0) in
-    if_some_with _ _ (λ run.
-    goes_on g.V.Store.moment g.V.Store.left_since s0 s1 c.write_at.new.self P _ run c.write_at.ensures.time
-    (close_anchor_crash (may s0) (may s1) _ (λ d left. run.each d (g.met.V.Store.counts_now s1 (g.V.Store.moment s0) d run.later left)) c.write_at.ensures.crash))
-    c.close_log.ensures.any_moment
+returns-in_err-write_at-clause-any_moment g c = if_some_with _ _ (λ run. anchor_run g.V.Store.moment g.V.Store.left_since g.V.Store.may_leave c.args.store.now c.close_log.new.store c.write_at.new.self g.met.V.Store.counts_now run c.write_at.ensures.crash c.write_at.ensures.time) c.close_log.ensures.any_moment
 
 pub returns-clause-any_moment : goal.returns-clause-any_moment
-returns-clause-any_moment g c =
-    let s0 = c.args.store.now in
-    let s1 = c.close_log.new.store in
-    let may = g.V.Store.may_leave in
-    let P = CloseLeaves (may s0) in
-    if_some_with _ _ (λ run.
-    let crash = close_anchor_crash (may s0) (may s1) (may c.write_at.new.self) (λ d left. run.each d (g.met.V.Store.counts_now s1 (g.V.Store.moment s0) d run.later left)) c.write_at.ensures.crash in
-    goes_on g.V.Store.moment g.V.Store.left_since s0 c.write_at.new.self c.sync.new.self P _
-    (goes_on g.V.Store.moment g.V.Store.left_since s0 s1 c.write_at.new.self P _ run c.write_at.ensures.time crash)
-    c.sync.ensures.time (λ f left. crash f (c.sync.ensures.crash f left)))
-    c.close_log.ensures.any_moment
+returns-clause-any_moment g c = if_some_with _ _ (λ run. anchor_synced g.V.Store.moment g.V.Store.left_since g.V.Store.may_leave c.args.store.now c.close_log.new.store c.write_at.new.self g.met.V.Store.counts_now run c.write_at.ensures.crash c.write_at.ensures.time c.sync.new.self c.sync.ensures.crash c.sync.ensures.time) c.close_log.ensures.any_moment
 
 pub returns-in_err-sync-clause-any_moment : goal.returns-in_err-sync-clause-any_moment
-returns-in_err-sync-clause-any_moment g c =
-    let s0 = c.args.store.now in
-    let s1 = c.close_log.new.store in
-    let may = g.V.Store.may_leave in
-    let P = CloseLeaves (may s0) in
-    if_some_with _ _ (λ run.
-    let crash = close_anchor_crash (may s0) (may s1) (may c.write_at.new.self) (λ d left. run.each d (g.met.V.Store.counts_now s1 (g.V.Store.moment s0) d run.later left)) c.write_at.ensures.crash in
-    goes_on g.V.Store.moment g.V.Store.left_since s0 c.write_at.new.self c.sync.new.self P _
-    (goes_on g.V.Store.moment g.V.Store.left_since s0 s1 c.write_at.new.self P _ run c.write_at.ensures.time crash)
-    c.sync.ensures.time (λ f left. crash f (c.sync.ensures.crash f left)))
-    c.close_log.ensures.any_moment
+returns-in_err-sync-clause-any_moment g c = if_some_with _ _ (λ run. anchor_synced g.V.Store.moment g.V.Store.left_since g.V.Store.may_leave c.args.store.now c.close_log.new.store c.write_at.new.self g.met.V.Store.counts_now run c.write_at.ensures.crash c.write_at.ensures.time c.sync.new.self c.sync.ensures.crash c.sync.ensures.time) c.close_log.ensures.any_moment
 
 pub returns-clause-closed : goal.returns-clause-closed
 returns-clause-closed g c =

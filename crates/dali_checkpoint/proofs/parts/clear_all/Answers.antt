@@ -10,4 +10,4 @@ pub loop-number-preserved : goal.loop-number-preserved
 loop-number-preserved c =
     let within : c.loop-number.number < length c.args.regions.now = search rules in
     let order : c.args.from ≤ c.loop-number.number = search rules in
-    record { changed = changes_next (cleaned c.args.side) c.args.from c.loop-number.number c.args.regions.now c.loop-number.regions c.index-regions-number.result c.clear_dirty.new.self order within c.loop-number.invariant.changed c.clear_dirty.ensures }
+    record { changed = changes_next (cleaned c.args.side) c.args.from c.loop-number.number c.args.regions.now c.loop-number.regions c.index-regions-number.result c.clear_dirty.new.self order within c.loop-number.invariant.changed c.clear_dirty.ensures.after }

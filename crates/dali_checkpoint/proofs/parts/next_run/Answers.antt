@@ -17,10 +17,10 @@ returns-in_ok-write_run-clause-places g c =
 
 pub returns-else-dirty-clause-ok : goal.returns-else-dirty-clause-ok
 returns-else-dirty-clause-ok g c =
-    sym (clean_run_same c.args.side c.args.from c.args.regions.now (flag_first c.args.side c.args.from c.args.regions.now c.index-regions-from.result c.requires.within ∙ (sym c.dirty.ensures ∙ c.if-dirty.false)))
+    sym (clean_run_same c.args.side c.args.from c.args.regions.now (flag_first c.args.side c.args.from c.args.regions.now c.index-regions-from.result c.requires.within ∙ (sym c.dirty.ensures.value ∙ c.if-dirty.false)))
 
 pub returns-else-dirty-clause-reaches : goal.returns-else-dirty-clause-reaches
 returns-else-dirty-clause-reaches g c =
     subst (λ n. IfSome (g.V.Store.told c.args.vault.now.store) (λ fs. place_of n ≤ length (image_file c.args.side fs))) (sym c.run_end-until.ensures.end)
     (clear_reaches (g.V.Store.told c.args.vault.now.store) c.args.regions.now c.args.from c.args.side c.requires.within
-    (flag_first c.args.side c.args.from c.args.regions.now c.index-regions-from.result c.requires.within ∙ (sym c.dirty.ensures ∙ c.if-dirty.false)) c.requires.places)
+    (flag_first c.args.side c.args.from c.args.regions.now c.index-regions-from.result c.requires.within ∙ (sym c.dirty.ensures.value ∙ c.if-dirty.false)) c.requires.places)

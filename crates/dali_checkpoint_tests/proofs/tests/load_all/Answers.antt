@@ -8,5 +8,5 @@ pub loop-preserved : goal.loop-preserved
 loop-preserved c = (
   ap length c.in-Ok.ensures.items ∙ (length-append c.loop.regions.items _ ∙ ap (λ (n : ℕ). n + 1) c.loop.invariant.0),
   subst AreUncopied (sym c.in-Ok.ensures.items)
-      (uncopied_more c.loop.regions.items c.load.result c.loop.invariant.1 (ap (λ (g : RegionState). g.dirty_a) c.load.ensures, ap (λ (g : RegionState). g.dirty_b) c.load.ensures)),
+      (uncopied_more c.loop.regions.items c.load.result c.loop.invariant.1 (ap (λ (g : RegionState). g.dirty_a) c.load.ensures.value, ap (λ (g : RegionState). g.dirty_b) c.load.ensures.value)),
 )

@@ -1,8 +1,9 @@
 use Rattle.std.proofs.Common.{ap, None}
 use Rattle.dali_core.specs.Served.{Served}
 use Rattle.dali_calls.proofs.Flags.{flags_further}
+use Rattle.dali_calls.proofs.Others.{promises_same, promises_further}
 use Rattle.dali_clean.proofs.Cleaning.{ends_so, given_back}
-use Rattle.dali_clean.proofs.Others.{others_further, dead_others, kept_further, kept_in_state, promises_same, promises_further}
+use Rattle.dali_clean.proofs.Others.{others_further, dead_others, kept_further, kept_in_state}
 use Rattle.dali_att.specs.declared.state.State.TheVariants.{Dead}
 use Rattle.dali_clean.proofs.cleaner.clean.Goals as goal
 

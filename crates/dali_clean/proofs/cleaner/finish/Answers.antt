@@ -2,7 +2,8 @@ use Rattle.std.proofs.Common.{ap, refl, ◌∙◌}
 use Rattle.dali_core.specs.Served.{Served}
 use Rattle.dali_core.specs.Promised.{Promised}
 use Rattle.std.specs.FinMap.{remove}
-use Rattle.dali_clean.proofs.Others.{others_further, others_same, ended_others, ended_gone, kept_further, kept_same, promises_same, promises_ended}
+use Rattle.dali_calls.proofs.Others.{ended_gone, promises_same, promises_ended}
+use Rattle.dali_clean.proofs.Others.{others_further, others_same, ended_others, kept_further, kept_same}
 use Rattle.dali_clean.proofs.cleaner.finish.Goals as goal
 
 pub returns-in-Ok-ended-clause-ok : goal.returns-in-Ok-ended-clause-ok

@@ -1,8 +1,8 @@
 use Rattle.std.proofs.Common.{◌≡◌, IfSome, None, length}
 use Rattle.dali_record.specs.Spelling.{IsUndo}
 use Rattle.dali_att.specs.Table.{undos_at}
-use Rattle.dali_core.specs.TakenBack.{next_undo}
 use Rattle.dali_calls.specs.Flags.{FlagsStay}
+use Rattle.dali_calls.proofs.Undoing.{TakesAllBack}
 use Rattle.dali_clean.specs.Cleaned.{LeadsOn, IsCleaning}
 use Rattle.dali_clean.specs.Others.{OthersStay, HasKept}
 use Rattle.dali_clean.proofs.cleaner.take_back.Given as goal
@@ -15,9 +15,7 @@ invariant-loop-region l = record {
   kept : HasKept l.initial.system l.system;
   flags : FlagsStay l.initial.regions l.regions;
   stop : l.system.state.stop ≡ l.initial.system.state.stop;
-  txn : l.back.txn ≡ l.txn;
-  down : l.back.down_to ≡ 0;
-  next : l.back.next ≡ next_undo (undos_at l.system.state.table l.txn) 0;
+  stands : TakesAllBack l.back l.txn (undos_at l.system.state.table l.txn);
   undoes : IfSome l.back.next (λ u. IsUndo u.undo);
   closed : l.back.operation ≡ None;
 }

@@ -1,5 +1,5 @@
 use Rattle.std.proofs.Common.{◌∙◌}
-use Rattle.dali_clean.proofs.Backward.{rewritten, is_taken_back, undone, promise_kept}
+use Rattle.dali_calls.proofs.Undoing.{rewritten, is_taken_back, undone, promise_kept}
 use Rattle.dali_clean.proofs.Cleaning.{on_ok_of, unheld_answer}
 use Rattle.dali_clean.proofs.undoing.undo.Goals as goal
 

@@ -1,5 +1,7 @@
 use Rattle.std.proofs.Common.{◌≡◌, ◌∙◌, refl, ap, sym, [], length, rules}
 use Rattle.std.proofs.lemmas.List.{length-set}
+use Rattle.dali_calls.proofs.Flags.{flags_same, flags_further, flags_set}
+use Rattle.dali_calls.proofs.Rows.{undos_in}
 use Rattle.dali_single.specs.Ending.{IsBackOf}
 use Rattle.dali_geometry.specs.Places.{regions}
 use Rattle.dali_att.specs.Table.{undos_at}
@@ -7,10 +9,8 @@ use Rattle.dali_system.specs.Regions.{is_alive}
 use Rattle.dali_system.specs.State.{state_in}
 use Rattle.dali_ends.specs.Refused.{abort_error}
 use Rattle.dali_core.specs.TakenBack.{next_undo}
-use Rattle.dali_calls.proofs.Flags.{flags_same, flags_further, flags_set}
 use Rattle.std.specs.List.{list_any}
 use Rattle.std.proofs.lemmas.Option.{slice_get-get_or}
-use Rattle.dali_clean.proofs.Courses.{undos_in}
 use Rattle.dali_ends.specs.Left.{is_on}
 use Rattle.dali_ends.proofs.Guarding.{released_here}
 use Rattle.dali_ends.proofs.Releasing.{cleared}

@@ -45,5 +45,8 @@ invariant_of-self c =
     with_back _ _ (back_is c)
     (updated_keeps (state_of c.self.inside) c.unwrap-hold.result c.args.word c.args.value c.bit.result c.self.invariant c.unwrap-hold.ensures (below c) c.bit.ensures c.ranges.value.fits (has_read_word (state_of c.self.inside) c.args.self.now c.unwrap-hold.result c.args.word c.self.view_is c.unwrap-hold.ensures c.requires))
 
-pub returns : goal.returns
-returns c = updated_is (state_of c.self.inside) c.args.self.now c.unwrap-hold.result c.args.word c.args.value c.bit.result _ c.self.view_is c.unwrap-hold.ensures c.bit.ensures (back_is c)
+pub returns-clause-protected : goal.returns-clause-protected
+returns-clause-protected c = invariant_of-self c
+
+pub returns-clause-after : goal.returns-clause-after
+returns-clause-after c = updated_is (state_of c.self.inside) c.args.self.now c.unwrap-hold.result c.args.word c.args.value c.bit.result _ c.self.view_is c.unwrap-hold.ensures c.bit.ensures (back_is c)

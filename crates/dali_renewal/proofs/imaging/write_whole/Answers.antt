@@ -1,4 +1,4 @@
-use Rattle.std.proofs.Common.{◌≡◌, ◌+◌, ◌*◌, ◌++◌, length, flat_map, ap, refl, sym, subst, arith, length-append}
+use Rattle.std.proofs.Common.{◌≡◌, ◌+◌, ◌*◌, ◌++◌, length, flat_map, refl, sym, subst, arith, length-append}
 use Rattle.std.proofs.lemmas.Result.{on_ok_weaker}
 use Rattle.dali_bytes.specs.Fields.{number32}
 use Rattle.dali_record.specs.Spelling.{words_bytes}
@@ -7,7 +7,7 @@ use Rattle.dali_image.specs.Headers.{heading}
 use Rattle.dali_image.proofs.OneHeader.{heading_is_64}
 use Rattle.dali_renewal.specs.Written.{new_image, without_rows}
 use Rattle.dali_renewal.proofs.Beside.{only_then}
-use Rattle.dali_renewal.proofs.Bytes.{from_start, held_then, held_to, regions_are_512, sized}
+use Rattle.dali_renewal.proofs.Bytes.{from_start, held_front, held_then, held_to, regions_are_512, sized}
 use Rattle.dali_renewal.proofs.imaging.write_whole.Goals as goal
 
 pub returns-in_err-write_regions-clause-only : goal.returns-in_err-write_regions-clause-only
@@ -19,12 +19,8 @@ write-requires-2 g c =
     let h = without_rows c.args.header.now in
     let words = flat_map words_bytes c.args.regions.now in
     let long : length words ≡ 512 * length c.args.regions.now = regions_are_512 c.args.regions.now (sized c.args.regions.now c.told-regions) in
-    let t0 = g.V.Store.told c.args.store.now in
-    let t2 = g.V.Store.told c.write_regions.new.store in
-    let front : HoldsIn c.args.file 0 (heading h ++ words) t0 t2 =
-    held_then c.args.file 0 64 _ words (heading h ++ words) t0 (g.V.Store.told c.write.new.store) t2 (let size : 64 ≡ 0 + length c.header_bytes.result = omega (arith, ap length c.header_bytes.ensures, heading_is_64 h) in size) (ap (λ l. l ++ words) c.header_bytes.ensures) (from_start c.args.file t0) c.in_ok-write.ensures.written c.in_ok-write_regions.ensures.written
-    in
-    held_to c.args.file 0 (64 + 512 * length c.args.regions.now) (heading h ++ words) t0 t2 (omega (arith, long, length-append (heading h) words, heading_is_64 h)) (from_start c.args.file t0) front
+    held_to c.args.file 0 (64 + 512 * length c.args.regions.now) (heading h ++ words) (g.V.Store.told c.args.store.now) (g.V.Store.told c.write_regions.new.store) (omega (arith, long, length-append (heading h) words, heading_is_64 h)) (from_start c.args.file (g.V.Store.told c.args.store.now))
+    (held_front c.args.file h c.header_bytes.result words (g.V.Store.told c.args.store.now) (g.V.Store.told c.write.new.store) (g.V.Store.told c.write_regions.new.store) c.header_bytes.ensures c.in_ok-write.ensures.written c.in_ok-write_regions.ensures.written)
 
 pub returns-in_err-write-2-clause-only : goal.returns-in_err-write-2-clause-only
 returns-in_err-write-2-clause-only g c =
@@ -39,9 +35,7 @@ returns-clause-written g c =
     let long : length words ≡ 512 * length c.args.regions.now = regions_are_512 c.args.regions.now (sized c.args.regions.now c.told-regions) in
     let t0 = g.V.Store.told c.args.store.now in
     let t2 = g.V.Store.told c.write_regions.new.store in
-    let front : HoldsIn c.args.file 0 (heading h ++ words) t0 t2 =
-    held_then c.args.file 0 64 _ words (heading h ++ words) t0 (g.V.Store.told c.write.new.store) t2 (let size : 64 ≡ 0 + length c.header_bytes.result = omega (arith, ap length c.header_bytes.ensures, heading_is_64 h) in size) (ap (λ l. l ++ words) c.header_bytes.ensures) (from_start c.args.file t0) c.in_ok-write.ensures.written c.in_ok-write_regions.ensures.written
-    in
+    let front : HoldsIn c.args.file 0 (heading h ++ words) t0 t2 = held_front c.args.file h c.header_bytes.result words t0 (g.V.Store.told c.write.new.store) t2 c.header_bytes.ensures c.in_ok-write.ensures.written c.in_ok-write_regions.ensures.written in
     let all : HoldsIn c.args.file 0 (new_image c.args.header.now c.args.regions.now) t0 (g.V.Store.told c.write-2.new.store) =
     held_then c.args.file 0 (64 + 512 * length c.args.regions.now) (heading h ++ words) (number32 0) (new_image c.args.header.now c.args.regions.now) t0 t2 (g.V.Store.told c.write-2.new.store)
     (omega (arith, long, length-append (heading h) words, heading_is_64 h)) refl (from_start c.args.file t0) front c.in_ok-write-2.ensures.written

@@ -2,7 +2,8 @@ use Rattle.std.proofs.Common.{◌+◌, [], ◌∷◌, refl, sym}
 use Rattle.dali_batch.specs.Appending.{next_place}
 use Rattle.dali_store.specs.declared.store.FileName.TheVariants.{Log}
 use Rattle.dali_store.proofs.Moments.{if_some_both, moved}
-use Rattle.dali_renewal.proofs.Staged.{anchored_beside, append_stops, log_stops, log_turns, not_log, ready_by}
+use Rattle.dali_renewal.proofs.Staged.{anchored_beside, append_stops, log_turns, not_log, ready_by}
+use Rattle.dali_renewal.proofs.Turned.{stops_logged_turn}
 use Rattle.dali_renewal.proofs.renewing.log_and_turn.Goals as goal
 
 pub returns-in_err-end-clause-stops : goal.returns-in_err-end-clause-stops
@@ -24,15 +25,7 @@ turn_image-requires-clause-anchored g c =
 
 pub returns-in_err-turn_image-clause-stops : goal.returns-in_err-turn_image-clause-stops
 returns-in_err-turn_image-clause-stops g c =
-    let s0 = c.args.store.now in
-    let s1 = c.append.new.store in
-    let t0 = g.V.Store.told s0 in
-    let t1 = g.V.Store.told s1 in
-    if_some_both _ t0 c.requires.closed (λ closed.
-    if_some_both _ t0 c.append.ensures.any_moment (λ run.
-    if_some_both _ t0 c.in_ok-end.ensures.acknowledged (λ added.
-    moved _ t1 t0 (sym c.append.ensures.tells) c.turn_image.ensures.stops (λ stops.
-    log_stops g.V.Store.told g.V.Store.may_leave g.V.Store.moment g.V.Store.left_since g.met.V.Store.counts_now c.args.standing.now c.args.frame.now.body c.args.regions.now s0 s1 c.turn_image.new.store closed run added stops))))
+    stops_logged_turn g.V.Store.told g.V.Store.may_leave g.V.Store.moment g.V.Store.left_since g.met.V.Store.counts_now c.args.standing.now c.args.frame.now.body c.args.regions.now c.args.store.now c.append.new.store c.turn_image.new.store c.append.ensures.tells c.requires.closed c.append.ensures.any_moment c.in_ok-end.ensures.acknowledged c.turn_image.ensures.stops
 
 pub returns-clause-turns : goal.returns-clause-turns
 returns-clause-turns g c =
@@ -47,15 +40,7 @@ returns-clause-turns g c =
 
 pub returns-clause-stops : goal.returns-clause-stops
 returns-clause-stops g c =
-    let s0 = c.args.store.now in
-    let s1 = c.append.new.store in
-    let t0 = g.V.Store.told s0 in
-    let t1 = g.V.Store.told s1 in
-    if_some_both _ t0 c.requires.closed (λ closed.
-    if_some_both _ t0 c.append.ensures.any_moment (λ run.
-    if_some_both _ t0 c.in_ok-end.ensures.acknowledged (λ added.
-    moved _ t1 t0 (sym c.append.ensures.tells) c.turn_image.ensures.stops (λ stops.
-    log_stops g.V.Store.told g.V.Store.may_leave g.V.Store.moment g.V.Store.left_since g.met.V.Store.counts_now c.args.standing.now c.args.frame.now.body c.args.regions.now s0 s1 c.turn_image.new.store closed run added stops))))
+    stops_logged_turn g.V.Store.told g.V.Store.may_leave g.V.Store.moment g.V.Store.left_since g.met.V.Store.counts_now c.args.standing.now c.args.frame.now.body c.args.regions.now c.args.store.now c.append.new.store c.turn_image.new.store c.append.ensures.tells c.requires.closed c.append.ensures.any_moment c.in_ok-end.ensures.acknowledged c.turn_image.ensures.stops
 
 pub returns-clause-ready : goal.returns-clause-ready
 returns-clause-ready g c =

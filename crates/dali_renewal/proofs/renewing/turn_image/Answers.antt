@@ -1,14 +1,11 @@
 use Rattle.std.proofs.Common.{◌≢◌, ap, sym, subst, ◌∙◌, ◌+◌}
-use Rattle.dali_store.specs.Store.{Files}
-use Rattle.dali_renewal.specs.Written.{head_in}
-use Rattle.dali_store.proofs.Moments.{if_some, if_some_both, moved}
+use Rattle.dali_store.proofs.Moments.{if_some, moved}
 use Rattle.dali_crash.specs.Checkpoints.{side_of}
-use Rattle.dali_traces.specs.Disks.{CanBeImage, IsImageOf, image_file, image_name}
+use Rattle.dali_traces.specs.Disks.{image_name}
 use Rattle.dali_store.specs.declared.store.FileName.TheVariants.{Anchor}
-use Rattle.dali_renewal.specs.Renewed.{header_at}
 use Rattle.dali_renewal.proofs.Beside.{now_beside}
-use Rattle.dali_renewal.proofs.Images.{image_held}
-use Rattle.dali_renewal.proofs.Staged.{anchored_beside, image_stops, image_turns, logs_kept, move_stops, not_image, now_anchored_next, tells_beside}
+use Rattle.dali_renewal.proofs.Staged.{anchored_beside, image_stops, logs_kept, not_image, now_anchored_next, tells_beside}
+use Rattle.dali_renewal.proofs.Turned.{stops_moving, turns_moved}
 use Rattle.dali_renewal.proofs.renewing.turn_image.Goals as goal
 
 pub returns-in_err-write_whole-clause-stops : goal.returns-in_err-write_whole-clause-stops
@@ -29,54 +26,18 @@ move_anchor-requires-clause-anchored g c =
 
 pub returns-in_err-move_anchor-clause-stops : goal.returns-in_err-move_anchor-clause-stops
 returns-in_err-move_anchor-clause-stops g c =
-    let may = g.V.Store.may_leave in
-    let s0 = c.args.store.now in
-    let s1 = c.write_whole.new.store in
-    let t0 = g.V.Store.told s0 in
-    let t1 = g.V.Store.told s1 in
-    let p = c.args.standing.now in
-    let name = c.name_of-file.ensures ∙ ap image_name c.side_of.ensures in
-    let held = image_held c.side_of.result c.name_of-file.result (header_at p) c.args.regions.now t0 t1 (may s1) c.name_of-file.ensures c.in_ok-write_whole.ensures.written c.in_ok-write_whole.ensures.durable in
-    if_some_both _ t0 c.requires.anchored (λ anchored.
-    if_some_both _ t0 held (λ image.
-    moved _ t1 t0 (sym (tells_beside c.name_of-file.result t0 t1 c.write_whole.ensures.only.reads)) c.move_anchor.ensures.any_moment (λ run.
-    move_stops g.V.Store.told may g.V.Store.moment g.V.Store.left_since g.met.V.Store.counts_now c.name_of-file.result p c.args.regions.now s0 s1 c.move_anchor.new.store name c.write_whole.ensures.only c.requires.small.1 c.requires.small.0 c.requires.whole
-    (subst (λ side. CanBeImage p.geometry (head_in (header_at p)) c.args.regions.now → (d : Files) → may s1 d → IsImageOf p.geometry (image_file side d) (head_in (header_at p)) c.args.regions.now) c.side_of.ensures image)
-    anchored run)))
+    stops_moving g.V.Store.told g.V.Store.may_leave g.V.Store.moment g.V.Store.left_since g.met.V.Store.counts_now c.side_of.result c.name_of-file.result c.args.standing.now c.args.regions.now c.args.store.now c.write_whole.new.store c.move_anchor.new.store c.name_of-file.ensures c.side_of.ensures c.requires.small.1 c.requires.small.0 c.requires.whole
+    c.write_whole.ensures.only c.in_ok-write_whole.ensures.written c.in_ok-write_whole.ensures.durable c.requires.anchored c.move_anchor.ensures.any_moment
 
 pub returns-clause-turns : goal.returns-clause-turns
 returns-clause-turns g c =
-    let may = g.V.Store.may_leave in
-    let s0 = c.args.store.now in
-    let s1 = c.write_whole.new.store in
-    let t0 = g.V.Store.told s0 in
-    let t1 = g.V.Store.told s1 in
-    let p = c.args.standing.now in
-    let name = c.name_of-file.ensures ∙ ap image_name c.side_of.ensures in
-    let held = image_held c.side_of.result c.name_of-file.result (header_at p) c.args.regions.now t0 t1 (may s1) c.name_of-file.ensures c.in_ok-write_whole.ensures.written c.in_ok-write_whole.ensures.durable in
-    if_some_both _ t0 c.requires.anchored (λ anchored.
-    if_some_both _ t0 held (λ image.
-    moved _ t1 t0 (sym (tells_beside c.name_of-file.result t0 t1 c.write_whole.ensures.only.reads)) c.in_ok-move_anchor.ensures.moved (λ has.
-    image_turns g.V.Store.told may g.V.Store.moment g.V.Store.left_since g.met.V.Store.counts_now c.name_of-file.result p c.args.regions.now s0 s1 c.move_anchor.new.store name c.write_whole.ensures.only c.requires.small.1 c.requires.small.0 c.requires.whole
-    (subst (λ side. CanBeImage p.geometry (head_in (header_at p)) c.args.regions.now → (d : Files) → may s1 d → IsImageOf p.geometry (image_file side d) (head_in (header_at p)) c.args.regions.now) c.side_of.ensures image)
-    anchored has)))
+    turns_moved g.V.Store.told g.V.Store.may_leave g.V.Store.moment g.V.Store.left_since g.met.V.Store.counts_now c.side_of.result c.name_of-file.result c.args.standing.now c.args.regions.now c.args.store.now c.write_whole.new.store c.move_anchor.new.store c.name_of-file.ensures c.side_of.ensures c.requires.small.1 c.requires.small.0 c.requires.whole
+    c.write_whole.ensures.only c.in_ok-write_whole.ensures.written c.in_ok-write_whole.ensures.durable c.requires.anchored c.in_ok-move_anchor.ensures.moved
 
 pub returns-clause-stops : goal.returns-clause-stops
 returns-clause-stops g c =
-    let may = g.V.Store.may_leave in
-    let s0 = c.args.store.now in
-    let s1 = c.write_whole.new.store in
-    let t0 = g.V.Store.told s0 in
-    let t1 = g.V.Store.told s1 in
-    let p = c.args.standing.now in
-    let name = c.name_of-file.ensures ∙ ap image_name c.side_of.ensures in
-    let held = image_held c.side_of.result c.name_of-file.result (header_at p) c.args.regions.now t0 t1 (may s1) c.name_of-file.ensures c.in_ok-write_whole.ensures.written c.in_ok-write_whole.ensures.durable in
-    if_some_both _ t0 c.requires.anchored (λ anchored.
-    if_some_both _ t0 held (λ image.
-    moved _ t1 t0 (sym (tells_beside c.name_of-file.result t0 t1 c.write_whole.ensures.only.reads)) c.move_anchor.ensures.any_moment (λ run.
-    move_stops g.V.Store.told may g.V.Store.moment g.V.Store.left_since g.met.V.Store.counts_now c.name_of-file.result p c.args.regions.now s0 s1 c.move_anchor.new.store name c.write_whole.ensures.only c.requires.small.1 c.requires.small.0 c.requires.whole
-    (subst (λ side. CanBeImage p.geometry (head_in (header_at p)) c.args.regions.now → (d : Files) → may s1 d → IsImageOf p.geometry (image_file side d) (head_in (header_at p)) c.args.regions.now) c.side_of.ensures image)
-    anchored run)))
+    stops_moving g.V.Store.told g.V.Store.may_leave g.V.Store.moment g.V.Store.left_since g.met.V.Store.counts_now c.side_of.result c.name_of-file.result c.args.standing.now c.args.regions.now c.args.store.now c.write_whole.new.store c.move_anchor.new.store c.name_of-file.ensures c.side_of.ensures c.requires.small.1 c.requires.small.0 c.requires.whole
+    c.write_whole.ensures.only c.in_ok-write_whole.ensures.written c.in_ok-write_whole.ensures.durable c.requires.anchored c.move_anchor.ensures.any_moment
 
 pub returns-clause-anchored : goal.returns-clause-anchored
 returns-clause-anchored g c =

@@ -8,6 +8,6 @@ pub loop-region-preserved : goal.loop-region-preserved
 loop-region-preserved c =
     let lt : c.loop-region.region < regions c.args.geometry.now = omega (arith, c.loop-region-test.true, c.regions-count.ensures.count) in (
       one_region c.args.geometry.now c.loop-region.region c.loop-region.regions.items c.push.new.self.items lt c.loop-region.invariant.0
-          (c.in_ok-push.ensures.items ∙ ap (λ (g : RegionState). c.loop-region.regions.items ++ g ∷ []) (c.load.ensures ∙ ap loaded c.formatted.ensures)),
+          (c.in_ok-push.ensures.items ∙ ap (λ (g : RegionState). c.loop-region.regions.items ++ g ∷ []) (c.load.ensures.value ∙ ap loaded c.formatted.ensures)),
       omega (arith, c.loop-region-test.true),
     )

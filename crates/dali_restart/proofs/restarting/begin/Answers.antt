@@ -1,6 +1,5 @@
 use Rattle.std.proofs.Common.{arith, subst}
-use Rattle.std.specs.List.{AllByRecursion}
-use Rattle.dali_record.specs.Blocks.{AreWords}
+use Rattle.dali_record.specs.Blocks.{AllAreWords}
 use Rattle.dali_batch.proofs.Finds.{if_some_two}
 use Rattle.dali_restart.proofs.Passing.{begun_in, has_room}
 use Rattle.dali_restart.proofs.restarting.begin.Goals as goal
@@ -9,7 +8,7 @@ pub returns-clause-ok : goal.returns-clause-ok
 returns-clause-ok g c =
     let o = c.in-Ok.opened in
     if_some_two _ _ _ (g.V.Store.told c.args.store.now) c.in-Ok.ensures.opened c.in-Ok.ensures.durable
-    (λ fs opened only. begun_in fs o.geometry o.current o.header o.regions.items o.table o.reader _ opened c.in-Ok.ensures.in_range (subst (AllByRecursion AreWords) c.deref.ensures.value c.tell_all.ensures) c.new-recovery.ensures.stands c.new-recovery.ensures.plain (g.V.Store.may_leave c.open.new.store) only)
+    (λ fs opened only. begun_in fs o.geometry o.current o.header o.regions.items o.table o.reader _ opened c.in-Ok.ensures.in_range (subst AllAreWords c.deref.ensures.value c.tell_all.ensures) c.new-recovery.ensures.stands c.new-recovery.ensures.plain (g.V.Store.may_leave c.open.new.store) only)
 
 pub returns-clause-in_order : goal.returns-clause-in_order
 returns-clause-in_order g c =

@@ -1,17 +1,14 @@
-use Rattle.std.proofs.Common.{◌≡◌, ◌≤◌, ◌^◌, ◌+◌, ℕ, None, IfSome, refl, sym, ap, subst, ◌∙◌, arith}
+use Rattle.std.proofs.Common.{None, refl, sym, ap, subst, ◌∙◌, arith}
 use Rattle.dali_lists.proofs.Options.{if_some_then}
-use Rattle.dali_batch.specs.Batch.{IsClosedAt}
 use Rattle.dali_traces.specs.Anchors.{AreAnchored}
 use Rattle.dali_renewal.specs.Logged.{restart_length}
-use Rattle.dali_renewal.specs.Renewed.{Renews, Stops, end_of}
+use Rattle.dali_renewal.specs.Renewed.{end_of}
 use Rattle.dali_restart.specs.Deciding.{at_end}
-use Rattle.dali_restart.proofs.Due.{are_anchored, is_closed, logs_record, moved_to, next_is, not_longer, record_is_small}
+use Rattle.dali_restart.proofs.Due.{are_anchored, closed_there, logs_record, next_is, not_longer, record_is_small, written_at}
 use Rattle.dali_restart.proofs.restarting.log_record.Goals as goal
 
 pub renew-requires-clause-closed : goal.renew-requires-clause-closed
-renew-requires-clause-closed g c =
-    if_some_then _ _ (g.V.Store.told c.args.store.now) c.requires.read
-    (λ fs is d left. subst (λ p. IsClosedAt p.place d.log) (sym c.end_of-whole.ensures) (is_closed fs _ c.args.found.now is d left))
+renew-requires-clause-closed g c = closed_there (g.V.Store.told c.args.store.now) (g.V.Store.may_leave c.args.store.now) c.args.found.now c.end_of-whole.result c.end_of-whole.ensures c.requires.read
 
 pub renew-requires-clause-anchored : goal.renew-requires-clause-anchored
 renew-requires-clause-anchored g c =
@@ -48,31 +45,13 @@ returns-in-Ok-clause-small g c =
 pub returns-in-Ok-clause-written : goal.returns-in-Ok-clause-written
 returns-in-Ok-clause-written g c =
     let x = c.args.found.now in
-    let s0 = c.args.store.now in
-    let s1 = c.renew.new.store in
-    let told = g.V.Store.told in
-    let may = g.V.Store.may_leave in
-    let moment = g.V.Store.moment in
-    let since = g.V.Store.left_since in
     let o = x.reloaded.recovered in
-    record {
-      renews =
-          moved_to (λ p m rs ds ws. IfSome (told s0) (λ _. Renews may moment since p m rs ds ws s0 s1)) c.end_of-whole.result (at_end x) None None c.deref.result.now o.rolled_back.items c.deref-2.result.now o.deleted.items
-          c.deref-3.result.now o.regions.items c.end_of-whole.ensures refl c.deref.ensures.value c.deref-2.ensures.value c.deref-3.ensures.value c.in-Ok.ensures.renews;
-      stops =
-          moved_to (λ p m rs ds ws. IfSome (told s0) (λ _. Stops may moment since p m rs ds ws s0 s1)) c.end_of-whole.result (at_end x) None None c.deref.result.now o.rolled_back.items c.deref-2.result.now o.deleted.items
-          c.deref-3.result.now o.regions.items c.end_of-whole.ensures refl c.deref.ensures.value c.deref-2.ensures.value c.deref-3.ensures.value c.in-Ok.ensures.stops;
-    }
+    written_at g.V.Store.told g.V.Store.may_leave g.V.Store.moment g.V.Store.left_since c.end_of-whole.result (at_end x) None None c.deref.result.now o.rolled_back.items c.deref-2.result.now o.deleted.items c.deref-3.result.now o.regions.items c.args.store.now c.renew.new.store _
+    c.end_of-whole.ensures refl c.deref.ensures.value c.deref-2.ensures.value c.deref-3.ensures.value c.in-Ok.ensures.renews c.in-Ok.ensures.stops
 
 pub returns-in-Err-clause-written : goal.returns-in-Err-clause-written
 returns-in-Err-clause-written g c =
     let x = c.args.found.now in
-    let s0 = c.args.store.now in
-    let s1 = c.renew.new.store in
     let o = x.reloaded.recovered in
-    record {
-      renews = tt;
-      stops =
-          moved_to (λ p m rs ds ws. IfSome (g.V.Store.told s0) (λ _. Stops g.V.Store.may_leave g.V.Store.moment g.V.Store.left_since p m rs ds ws s0 s1)) c.end_of-whole.result (at_end x) None None c.deref.result.now
-          o.rolled_back.items c.deref-2.result.now o.deleted.items c.deref-3.result.now o.regions.items c.end_of-whole.ensures refl c.deref.ensures.value c.deref-2.ensures.value c.deref-3.ensures.value c.in-Err.ensures.stops;
-    }
+    written_at g.V.Store.told g.V.Store.may_leave g.V.Store.moment g.V.Store.left_since c.end_of-whole.result (at_end x) None None c.deref.result.now o.rolled_back.items c.deref-2.result.now o.deleted.items c.deref-3.result.now o.regions.items c.args.store.now c.renew.new.store _
+    c.end_of-whole.ensures refl c.deref.ensures.value c.deref-2.ensures.value c.deref-3.ensures.value tt c.in-Err.ensures.stops

@@ -4,10 +4,9 @@ use Rattle.dali_batch.specs.Reads.{OnlyReads}
 use Rattle.dali_batch.proofs.Finds.{if_some_any, if_some_same, if_some_two}
 use Rattle.dali_recovery.specs.Laws.{outcome_of}
 use Rattle.dali_region.specs.State.{loaded}
-use Rattle.dali_rise.specs.Risen.{IsRisen, RunBegins}
 use Rattle.dali_restart.specs.declared.error.RestartError.TheVariants as errors
 use Rattle.dali_restart.specs.Restarting.{IsLeft}
-use Rattle.dali_restart.proofs.Handing.{begins_run, err_same, gives_in, is_fresh, left_reading, left_settling, none_read, reads_in, reads_out, rests_then}
+use Rattle.dali_restart.proofs.Handing.{begins_over, err_same, gives_in, is_fresh, left_reading, left_settling, none_read, reads_in, reads_out, rests_over}
 use Rattle.dali_restart.proofs.Idle.{rests_idle}
 use Rattle.dali_restart.proofs.restarting.restart.Goals as goal
 
@@ -64,31 +63,15 @@ returns-in-Ok-rise-clause-read g c =
 
 pub returns-in-Ok-rise-clause-begins : goal.returns-in-Ok-rise-clause-begins
 returns-in-Ok-rise-clause-begins g c =
-    let told = g.V.Store.told in
-    let may = g.V.Store.may_leave in
-    let x = c.in-Ok.found in
-    let r = c.in-Ok-settle.resting in
     let core = c.in-Ok-rise.core in
-    let gs = core.regions.items in
-    let s = c.settle.new.store in
-    let risen = subst (λ ws. IsRisen r ws c.args.limit s gs core.system core.vault) c.deref.ensures.value c.in-Ok-rise.ensures.core in
-    let begins = subst (λ ws. RunBegins told may g.V.Store.faults r ws c.args.limit gs core.system.state core.vault) c.deref.ensures.value c.in-Ok-rise.ensures.begins in
-    if_some_two _ _ _ (told c.args.store) c.in-Ok.ensures.ok (if_some_same _ _ _ c.read.ensures.reads.same c.in-Ok-settle.ensures.settles)
-    (λ fs is settles. begins_run told may g.V.Store.faults c.args.limit c.requires.limit x r s gs core.system core.vault risen begins fs _ is settles)
+    if_some_two _ _ _ (g.V.Store.told c.args.store) c.in-Ok.ensures.ok (if_some_same _ _ _ c.read.ensures.reads.same c.in-Ok-settle.ensures.settles)
+    (λ fs is settles. begins_over g.V.Store.told g.V.Store.may_leave g.V.Store.faults c.args.limit c.requires.limit c.in-Ok.found c.in-Ok-settle.resting c.settle.new.store core.regions.items core.system core.vault _ c.deref.ensures.value c.in-Ok-rise.ensures.core c.in-Ok-rise.ensures.begins fs _ is settles)
 
 pub returns-in-Ok-rise-clause-rests : goal.returns-in-Ok-rise-clause-rests
 returns-in-Ok-rise-clause-rests g c =
-    let told = g.V.Store.told in
-    let may = g.V.Store.may_leave in
-    let x = c.in-Ok.found in
-    let r = c.in-Ok-settle.resting in
     let core = c.in-Ok-rise.core in
-    let gs = core.regions.items in
-    let s = c.settle.new.store in
-    let risen = subst (λ ws. IsRisen r ws c.args.limit s gs core.system core.vault) c.deref.ensures.value c.in-Ok-rise.ensures.core in
-    let begins = subst (λ ws. RunBegins told may g.V.Store.faults r ws c.args.limit gs core.system.state core.vault) c.deref.ensures.value c.in-Ok-rise.ensures.begins in
-    if_some_two _ _ _ (told c.args.store) c.in-Ok.ensures.ok (if_some_same _ _ _ c.read.ensures.reads.same c.in-Ok-settle.ensures.settles)
-    (λ fs is settles. rests_then told may g.V.Store.faults c.args.limit c.requires.limit x r s gs core.system core.vault risen begins fs _ is settles)
+    if_some_two _ _ _ (g.V.Store.told c.args.store) c.in-Ok.ensures.ok (if_some_same _ _ _ c.read.ensures.reads.same c.in-Ok-settle.ensures.settles)
+    (λ fs is settles. rests_over g.V.Store.told g.V.Store.may_leave g.V.Store.faults c.args.limit c.requires.limit c.in-Ok.found c.in-Ok-settle.resting c.settle.new.store core.regions.items core.system core.vault _ c.deref.ensures.value c.in-Ok-rise.ensures.core c.in-Ok-rise.ensures.begins fs _ is settles)
 
 pub returns-in-Ok-rise-clause-any_moment : goal.returns-in-Ok-rise-clause-any_moment
 returns-in-Ok-rise-clause-any_moment g c =

@@ -2,4 +2,4 @@ use Rattle.dali_run.proofs.Made.{restart_begins}
 use Rattle.dali_run.proofs.chains.a_restart_begins.Goals as goal
 
 pub returns : goal.returns
-returns g c = restart_begins g.V.Store.told g.V.Store.may_leave g.V.Store.faults
+returns g c = restart_begins g.V.Store

@@ -5,5 +5,5 @@ use Rattle.dali_run.proofs.cleaning.clean_dead.Goals as goal
 
 pub returns-clause-cleaned : goal.returns-clause-cleaned
 returns-clause-cleaned g c =
-    has_cleaned g.V.Store.told g.V.Store.may_leave g.V.Store.faults c.in_ok-dead.dead.items c.args.core.now c.clean_all.new.core c.in_ok-dead.ensures
-    (subst (λ (l : List ℕ). CleansAll g.V.Store.told g.V.Store.may_leave g.V.Store.faults l c.args.core.now c.clean_all.new.core) c.deref.ensures.value c.in_ok-clean_all.ensures.cleans)
+    has_cleaned g.V.Store c.in_ok-dead.dead.items c.args.core.now c.clean_all.new.core c.in_ok-dead.ensures
+    (subst (λ (l : List ℕ). CleansAll g.V.Store l c.args.core.now c.clean_all.new.core) c.deref.ensures.value c.in_ok-clean_all.ensures.cleans)

@@ -8,6 +8,6 @@ use Rattle.dali_whole.proofs.Lengths.{flags_hold}
 
 pub returns-in-Up-clause-images : goal.returns-in-Up-clause-images
 returns-in-Up-clause-images g c =
-    let here = subst (HoldsImages g.V.Store.told) c.in-Up.is c.requires.images in
-    let stays = flags_hold (told_in g.V.Store.told c.in-Up.core.vault.store) c.in-Up.core.regions.items c.verify_of-printed.new.core.regions.items c.verify_of-printed.ensures.flags here in
+    let here = subst (HoldsImages g.V.Store) c.in-Up.is c.requires.images in
+    let stays = flags_hold (told_in g.V.Store c.in-Up.core.vault.store) c.in-Up.core.regions.items c.verify_of-printed.new.core.regions.items c.verify_of-printed.ensures.flags here in
     subst (λ (o : Option Files). IfSome o (HoldsPlaces c.verify_of-printed.new.core.regions.items)) (sym c.verify_of-printed.ensures.told) stays

@@ -8,6 +8,6 @@ use Rattle.dali_run.proofs.Courses.{err_of}
 
 pub returns-in-Err-clause-fails : goal.returns-in-Err-clause-fails
 returns-in-Err-clause-fails g c =
-    fails_in g.V.Store.told g.V.Store.may_leave g.V.Store.moment g.V.Store.left_since g.V.Store.faults c.in-Err.halt c.leave.result.halt (Crash 0) (Crash 0) (Up c.args.core)
+    fails_in g.V.Store c.in-Err.halt c.leave.result.halt (Crash 0) (Crash 0) (Up c.args.core)
     (store_of c.crash-program.result.0) c.leave.result.store c.args.setting.now.precheck c.requires.unchecked refl
     (err_of _ c.crash-program.result.1 c.in-Err.halt c.in-Err.is c.crash-program.ensures.fails) c.leave.ensures.halt c.leave.ensures.store

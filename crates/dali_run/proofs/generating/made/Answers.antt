@@ -14,7 +14,7 @@ returns-in-Err-clause-fails g c =
     rw (c.index_regions.ensures, c.heap_regions.ensures) refl in (
       c.down.result,
       c.down.ensures,
-      fails_in g.V.Store.told g.V.Store.may_leave g.V.Store.moment g.V.Store.left_since g.V.Store.faults c.in-Err.halt c.leave.result.halt
+      fails_in g.V.Store c.in-Err.halt c.leave.result.halt
           (Size c.index_regions.result c.heap_regions.result) (Size (index_regions c.args.clients c.args.size) (heap_regions c.args.clients c.args.size)) c.down.result
           (store_of c.size-program.result.0) c.leave.result.store c.args.setting.now.precheck c.requires.unchecked same
           (err_of _ c.size-program.result.1 c.in-Err.halt c.in-Err.is c.size-program.ensures.fails) c.leave.ensures.halt c.leave.ensures.store,
@@ -22,8 +22,8 @@ returns-in-Err-clause-fails g c =
 
 pub returns-clause-made : goal.returns-clause-made
 returns-clause-made g c = (
-  is_made g.V.Store.told g.V.Store.may_leave g.V.Store.moment g.V.Store.left_since g.V.Store.faults c.args.setting.now.limit c.args.clients c.args.size c.args.store c.in-Up.core
+  is_made g.V.Store c.args.setting.now.limit c.args.clients c.args.size c.args.store c.in-Up.core
       c.down.result c.size-program.result.0 c.index_regions.result c.heap_regions.result c.in_default.field-0.items c.down.ensures c.index_regions.ensures c.heap_regions.ensures c.in-Up.is
       (ok_holds _ c.size-program.result.1 c.in_default.field-0 c.in_default.is c.size-program.ensures.steps),
-  subst (λ (p : Program g.row.V.Denot). HoldsImages g.V.Store.told p) c.in-Up.is c.size-program.ensures.images,
+  subst (λ (p : Program g.row.V.Denot). HoldsImages g.V.Store p) c.in-Up.is c.size-program.ensures.images,
 )

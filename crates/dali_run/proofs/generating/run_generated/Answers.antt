@@ -6,10 +6,10 @@ use Rattle.dali_script.specs.declared.commands.Block.{Block}
 use Rattle.dali_transcripts.specs.Rounds.{AreBlocks}
 use Rattle.dali_run.specs.declared.program.Program.TheVariants.{Up}
 use Rattle.dali_run.specs.Generating.{IsCrashed, IsMade, IsPlayed, NotRestarted}
-use Rattle.dali_run.specs.Steps.{Restarts, StepsCrash}
+use Rattle.dali_run.specs.Steps.{Restarts}
 use Rattle.dali_run.specs.Told.{told_by}
 use Rattle.dali_run.proofs.Fit.{right_blocks}
-use Rattle.dali_run.proofs.Generated.{ends_by, ends_in_restart, ends_in_round, is_played}
+use Rattle.dali_run.proofs.Generated.{ends_by, ends_in_restart, ends_in_round, is_crashed, is_played}
 use Rattle.dali_run.proofs.generating.run_generated.Goals as goal
 
 pub returns-in_err-core-clause-ends : goal.returns-in_err-core-clause-ends
@@ -18,7 +18,7 @@ returns-in_err-core-clause-ends g c =
     let fails = c.in_err-core.ensures.fails in
     let s = c.in_err-core.field-0.0 in
     rw (p.1, p.2)
-    (ends_by g.V.Store.told g.V.Store.may_leave g.V.Store.moment g.V.Store.left_since g.V.Store.faults g.V.Store.cuts c.args.clients c.args.size c.args.number s.halt c.args.store s.store
+    (ends_by g.V.Store c.args.clients c.args.size c.args.number s.halt c.args.store s.store
     (inl (fails.0, fails.1, fails.2)))
 
 pub played-requires-clause-placed : goal.played-requires-clause-placed
@@ -30,60 +30,44 @@ pub returns-in_err-core-2-clause-ends : goal.returns-in_err-core-2-clause-ends
 returns-in_err-core-2-clause-ends g c =
     let p = err_from_is_err_and c.from_residual-in_err-core-2.result c.from_residual-in_err-core-2.ensures.1 in
     let s = c.in_err-core-2.field-0.0 in
-    let made = subst (λ (l : ℕ). IsMade g.V.Store.told g.V.Store.may_leave g.V.Store.moment g.V.Store.left_since g.V.Store.faults l c.args.clients c.args.size c.args.store c.in_ok-core.core) c.requires.limit c.in_ok-core.ensures.made.0 in
+    let made = subst (λ (l : ℕ). IsMade g.V.Store l c.args.clients c.args.size c.args.store c.in_ok-core.core) c.requires.limit c.in_ok-core.ensures.made.0 in
     rw (p.1, p.2)
-    (ends_in_round g.V.Store.told g.V.Store.may_leave g.V.Store.moment g.V.Store.left_since g.V.Store.faults g.V.Store.cuts c.args.clients c.args.size c.args.number s.halt c.args.store s.store c.in_ok-core.core (map told_by c.deref.result.now)
+    (ends_in_round g.V.Store c.args.clients c.args.size c.args.number s.halt c.args.store s.store c.in_ok-core.core (map told_by c.deref.result.now)
     (ap (λ (bs : List Block). map told_by bs) (c.deref.ensures.value ∙ c.in-Ok.ensures)) made c.in_err-core-2.ensures.stops)
 
 pub returns-in_err-program-clause-ends : goal.returns-in_err-program-clause-ends
 returns-in_err-program-clause-ends g c =
     let p = err_from_is_err_and c.from_residual-in_err-program.result c.from_residual-in_err-program.ensures.1 in
     let s = c.in_err-program.field-0.0 in
-    let made = subst (λ (l : ℕ). IsMade g.V.Store.told g.V.Store.may_leave g.V.Store.moment g.V.Store.left_since g.V.Store.faults l c.args.clients c.args.size c.args.store c.in_ok-core.core) c.requires.limit c.in_ok-core.ensures.made.0 in
-    let played : IsPlayed g.V.Store.told g.V.Store.may_leave g.V.Store.moment g.V.Store.left_since g.V.Store.faults 67108864 c.args.clients c.args.size c.args.number c.args.store None =
-    is_played g.V.Store.told g.V.Store.may_leave g.V.Store.moment g.V.Store.left_since g.V.Store.faults 67108864 c.args.clients c.args.size c.args.number c.args.store c.in_ok-core.core c.in_ok-core-2.core (map told_by c.deref.result.now)
+    let made = subst (λ (l : ℕ). IsMade g.V.Store l c.args.clients c.args.size c.args.store c.in_ok-core.core) c.requires.limit c.in_ok-core.ensures.made.0 in
+    let played : IsPlayed g.V.Store 67108864 c.args.clients c.args.size c.args.number c.args.store None =
+    is_played g.V.Store 67108864 c.args.clients c.args.size c.args.number c.args.store c.in_ok-core.core c.in_ok-core-2.core (map told_by c.deref.result.now)
     (ap (λ (bs : List Block). map told_by bs) (c.deref.ensures.value ∙ c.in-Ok.ensures)) made c.in_ok-core-2.ensures.plays.0 in
     rw (p.1, p.2)
-    (ends_by g.V.Store.told g.V.Store.may_leave g.V.Store.moment g.V.Store.left_since g.V.Store.faults g.V.Store.cuts c.args.clients c.args.size c.args.number s.halt c.args.store s.store
+    (ends_by g.V.Store c.args.clients c.args.size c.args.number s.halt c.args.store s.store
     (inr (inl (played, c.in_err-program.ensures.fails))))
 
 pub returns-clause-finds : goal.returns-clause-finds
 returns-clause-finds g c =
-    let made = subst (λ (l : ℕ). IsMade g.V.Store.told g.V.Store.may_leave g.V.Store.moment g.V.Store.left_since g.V.Store.faults l c.args.clients c.args.size c.args.store c.in_ok-core.core) c.requires.limit c.in_ok-core.ensures.made.0 in
-    let played : IsPlayed g.V.Store.told g.V.Store.may_leave g.V.Store.moment g.V.Store.left_since g.V.Store.faults 67108864 c.args.clients c.args.size c.args.number c.args.store None =
-    is_played g.V.Store.told g.V.Store.may_leave g.V.Store.moment g.V.Store.left_since g.V.Store.faults 67108864 c.args.clients c.args.size c.args.number c.args.store c.in_ok-core.core c.in_ok-core-2.core (map told_by c.deref.result.now)
-    (ap (λ (bs : List Block). map told_by bs) (c.deref.ensures.value ∙ c.in-Ok.ensures)) made c.in_ok-core-2.ensures.plays.0 in
     let crash = c.in_ok-program.ensures.crash in
-    let run : IsCrashed g.V.Store.told g.V.Store.may_leave g.V.Store.moment g.V.Store.left_since g.V.Store.faults 67108864 c.args.clients c.args.size c.args.number g.V.Store.cuts c.args.store =
-    record {
-      run = played;
-      text = crash.0;
-      crashed = c.in_ok-program.program;
-      crash = subst (λ (l : ℕ). StepsCrash g.V.Store.told g.V.Store.may_leave g.V.Store.moment g.V.Store.left_since g.V.Store.faults l g.V.Store.cuts 0 (Up c.in_ok-core-2.core) crash.0 c.in_ok-program.program) c.requires.limit crash.1;
-    } in
+    let run : IsCrashed g.V.Store 67108864 c.args.clients c.args.size c.args.number c.args.store =
+    is_crashed g.V.Store 67108864 c.args.clients c.args.size c.args.number c.args.store c.in_ok-core.core c.in_ok-core-2.core (map told_by c.deref.result.now) _ c.in_ok-program.program crash.0 c.requires.limit
+    (ap (λ (bs : List Block). map told_by bs) (c.deref.ensures.value ∙ c.in-Ok.ensures)) c.in_ok-core.ensures.made.0 c.in_ok-core-2.ensures.plays.0 crash.1 in
     IfOk-weaker c.found.result _ _
     (λ core finds. record {
       run = run;
       text = finds.0;
-      restart = subst (λ (l : ℕ). Restarts g.V.Store.told g.V.Store.may_leave g.V.Store.moment g.V.Store.left_since g.V.Store.faults l c.in_ok-program.program finds.0 (Up core)) c.requires.limit finds.1;
+      restart = subst (λ (l : ℕ). Restarts g.V.Store l c.in_ok-program.program finds.0 (Up core)) c.requires.limit finds.1;
     })
     c.found.ensures.finds
 
 pub returns-clause-ends : goal.returns-clause-ends
 returns-clause-ends g c =
-    let made = subst (λ (l : ℕ). IsMade g.V.Store.told g.V.Store.may_leave g.V.Store.moment g.V.Store.left_since g.V.Store.faults l c.args.clients c.args.size c.args.store c.in_ok-core.core) c.requires.limit c.in_ok-core.ensures.made.0 in
-    let played : IsPlayed g.V.Store.told g.V.Store.may_leave g.V.Store.moment g.V.Store.left_since g.V.Store.faults 67108864 c.args.clients c.args.size c.args.number c.args.store None =
-    is_played g.V.Store.told g.V.Store.may_leave g.V.Store.moment g.V.Store.left_since g.V.Store.faults 67108864 c.args.clients c.args.size c.args.number c.args.store c.in_ok-core.core c.in_ok-core-2.core (map told_by c.deref.result.now)
-    (ap (λ (bs : List Block). map told_by bs) (c.deref.ensures.value ∙ c.in-Ok.ensures)) made c.in_ok-core-2.ensures.plays.0 in
     let crash = c.in_ok-program.ensures.crash in
-    let run : IsCrashed g.V.Store.told g.V.Store.may_leave g.V.Store.moment g.V.Store.left_since g.V.Store.faults 67108864 c.args.clients c.args.size c.args.number g.V.Store.cuts c.args.store =
-    record {
-      run = played;
-      text = crash.0;
-      crashed = c.in_ok-program.program;
-      crash = subst (λ (l : ℕ). StepsCrash g.V.Store.told g.V.Store.may_leave g.V.Store.moment g.V.Store.left_since g.V.Store.faults l g.V.Store.cuts 0 (Up c.in_ok-core-2.core) crash.0 c.in_ok-program.program) c.requires.limit crash.1;
-    } in
+    let run : IsCrashed g.V.Store 67108864 c.args.clients c.args.size c.args.number c.args.store =
+    is_crashed g.V.Store 67108864 c.args.clients c.args.size c.args.number c.args.store c.in_ok-core.core c.in_ok-core-2.core (map told_by c.deref.result.now) _ c.in_ok-program.program crash.0 c.requires.limit
+    (ap (λ (bs : List Block). map told_by bs) (c.deref.ensures.value ∙ c.in-Ok.ensures)) c.in_ok-core.ensures.made.0 c.in_ok-core-2.ensures.plays.0 crash.1 in
     IfErr-weaker c.found.result _ _
-    (λ s fails. ends_in_restart g.V.Store.told g.V.Store.may_leave g.V.Store.moment g.V.Store.left_since g.V.Store.faults g.V.Store.cuts c.args.clients c.args.size c.args.number s.halt c.args.store s.store run
-    (subst (λ (l : ℕ). NotRestarted g.V.Store.told g.V.Store.may_leave g.V.Store.moment g.V.Store.left_since g.V.Store.faults l c.in_ok-program.program s.halt s.store) c.requires.limit fails))
+    (λ s fails. ends_in_restart g.V.Store c.args.clients c.args.size c.args.number s.halt c.args.store s.store run
+    (subst (λ (l : ℕ). NotRestarted g.V.Store l c.in_ok-program.program s.halt s.store) c.requires.limit fails))
     c.found.ensures.fails

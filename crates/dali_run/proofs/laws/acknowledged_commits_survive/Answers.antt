@@ -4,4 +4,4 @@ use Rattle.dali_run.proofs.laws.acknowledged_commits_survive.Goals as goal
 pub returns : goal.returns
 returns g c =
     let met = g.met.V.Store in
-    acknowledged_survive g.V.Store.told g.V.Store.may_leave g.V.Store.moment g.V.Store.left_since g.V.Store.faults met.reads_now met.counts_now met.only_now g.V.Store.cuts
+    acknowledged_survive g.V.Store met.reads_now met.counts_now met.only_now

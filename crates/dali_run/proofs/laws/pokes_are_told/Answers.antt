@@ -5,10 +5,10 @@ pub returns-clause-named : goal.returns-clause-named
 returns-clause-named g c =
     let met = g.met.V.Store in
     λ limit precheck.
-    strays_are_named g.V.Store.told g.V.Store.may_leave g.V.Store.moment g.V.Store.left_since g.V.Store.faults met.reads_now met.counts_now limit g.V.Store.cuts precheck
+    strays_are_named g.V.Store met.reads_now met.counts_now limit precheck
 
 pub returns-clause-told : goal.returns-clause-told
 returns-clause-told g c =
     let met = g.met.V.Store in
     λ limit precheck.
-    pokes_are_told g.V.Store.told g.V.Store.may_leave g.V.Store.moment g.V.Store.left_since g.V.Store.faults met.reads_now met.counts_now limit g.V.Store.cuts precheck
+    pokes_are_told g.V.Store met.reads_now met.counts_now limit precheck

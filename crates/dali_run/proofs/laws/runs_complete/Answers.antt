@@ -5,4 +5,4 @@ pub returns : goal.returns
 returns g c =
     let met = g.met.V.Store in
     λ limit precheck.
-    runs_complete g.V.Store.told g.V.Store.may_leave g.V.Store.moment g.V.Store.left_since g.V.Store.faults met.reads_now met.counts_now limit g.V.Store.cuts precheck
+    runs_complete g.V.Store met.reads_now met.counts_now limit precheck

@@ -6,9 +6,9 @@ pub returns-clause-scripts : goal.returns-clause-scripts
 returns-clause-scripts g c =
     let met = g.met.V.Store in
     λ limit precheck.
-    store_faults_rise g.V.Store.told g.V.Store.may_leave g.V.Store.moment g.V.Store.left_since g.V.Store.faults met.reads_now met.counts_now limit g.V.Store.cuts precheck
+    store_faults_rise g.V.Store met.reads_now met.counts_now limit precheck
 
 pub returns-clause-generated : goal.returns-clause-generated
 returns-clause-generated g c =
     let met = g.met.V.Store in
-    generator_faults_rise g.V.Store.told g.V.Store.may_leave g.V.Store.moment g.V.Store.left_since g.V.Store.faults met.reads_now met.counts_now g.V.Store.cuts
+    generator_faults_rise g.V.Store met.reads_now met.counts_now

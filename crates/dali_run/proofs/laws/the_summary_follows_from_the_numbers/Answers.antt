@@ -4,4 +4,4 @@ use Rattle.dali_run.proofs.laws.the_summary_follows_from_the_numbers.Goals as go
 pub returns : goal.returns
 returns g c =
     let met = g.met.V.Store in
-    summary_depends g.V.Store.told g.V.Store.may_leave g.V.Store.moment g.V.Store.left_since g.V.Store.faults met.reads_now met.counts_now g.V.Store.cuts
+    summary_depends g.V.Store met.reads_now met.counts_now

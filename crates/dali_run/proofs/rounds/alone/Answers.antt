@@ -7,7 +7,7 @@ use Rattle.dali_run.proofs.rounds.alone.Goals as goal
 
 pub returns-in-Up-clause-steps : goal.returns-in-Up-clause-steps
 returns-in-Up-clause-steps g c =
-    IfOk-weaker c.alone_over-core.result.1 (λ text. ActsAlone g.V.Store.told g.V.Store.may_leave g.V.Store.moment g.V.Store.left_since g.V.Store.faults c.args.setting.now.precheck (act_of c.args.command.now) c.in-Up.core text.items c.alone_over-core.result.0)
-    (λ text. StepsAlone g.V.Store.told g.V.Store.may_leave g.V.Store.moment g.V.Store.left_since g.V.Store.faults c.args.setting.now.precheck c.args.name (act_of c.args.command.now) c.args.program text.items (Up c.alone_over-core.result.0))
-    (λ text acts. steps_alone g.V.Store.told g.V.Store.may_leave g.V.Store.moment g.V.Store.left_since g.V.Store.faults c.args.setting.now.precheck c.args.name (act_of c.args.command.now) c.args.program c.in-Up.core c.alone_over-core.result.0 text.items c.in-Up.is acts)
+    IfOk-weaker c.alone_over-core.result.1 (λ text. ActsAlone g.V.Store c.args.setting.now.precheck (act_of c.args.command.now) c.in-Up.core text.items c.alone_over-core.result.0)
+    (λ text. StepsAlone g.V.Store c.args.setting.now.precheck c.args.name (act_of c.args.command.now) c.args.program text.items (Up c.alone_over-core.result.0))
+    (λ text acts. steps_alone g.V.Store c.args.setting.now.precheck c.args.name (act_of c.args.command.now) c.args.program c.in-Up.core c.alone_over-core.result.0 text.items c.in-Up.is acts)
     c.alone_over-core.ensures.acts

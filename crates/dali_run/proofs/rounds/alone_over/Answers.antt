@@ -29,10 +29,10 @@ pub returns-then-failed-clause-ends : goal.returns-then-failed-clause-ends
 returns-then-failed-clause-ends g c =
     let act = act_of c.args.command.now in
     let ts = c.in-Ok-transcripts.transcripts.items in
-    let plays : Plays g.V.Store.told g.V.Store.may_leave g.V.Store.faults c.args.setting.now.precheck true (alone act) c.args.core ts c.play-core.result.0 =
-    subst (λ (b : List Told). Plays g.V.Store.told g.V.Store.may_leave g.V.Store.faults c.args.setting.now.precheck true b c.args.core ts c.play-core.result.0) c.in-Ok.ensures
+    let plays : Plays g.V.Store c.args.setting.now.precheck true (alone act) c.args.core ts c.play-core.result.0 =
+    subst (λ (b : List Told). Plays g.V.Store c.args.setting.now.precheck true b c.args.core ts c.play-core.result.0) c.in-Ok.ensures
     (ok_holds _ c.play-core.result.1 c.in-Ok-transcripts.transcripts c.in-Ok-transcripts.is c.play-core.ensures.plays) in
-    fails_alone g.V.Store.told g.V.Store.may_leave g.V.Store.moment g.V.Store.left_since g.V.Store.faults c.args.setting.now.precheck act c.args.core c.play-core.result.0 ts c.say_failure.result plays c.play-core.ensures.longer c.play-core.ensures.any_moment
+    fails_alone g.V.Store c.args.setting.now.precheck act c.args.core c.play-core.result.0 ts c.say_failure.result plays c.play-core.ensures.longer c.play-core.ensures.any_moment
     (c.say_failure.ensures ∙ ap (λ (l : List Transcribed). list_any says_failure l) c.deref.ensures.value) c.if-say_failure.true
     (most_so (failed_of c.play-core.result.0.vault.store) (failed_of c.args.core.vault.store) c.failed.result c.failed-failed.result c.failed.ensures c.failed-failed.ensures c.if-failed.true)
 
@@ -40,8 +40,8 @@ pub returns-else-say_failure-clause-acts : goal.returns-else-say_failure-clause-
 returns-else-say_failure-clause-acts g c =
     let act = act_of c.args.command.now in
     let ts = c.in-Ok-transcripts.transcripts.items in
-    let plays : Plays g.V.Store.told g.V.Store.may_leave g.V.Store.faults c.args.setting.now.precheck true (alone act) c.args.core ts c.play-core.result.0 =
-    subst (λ (b : List Told). Plays g.V.Store.told g.V.Store.may_leave g.V.Store.faults c.args.setting.now.precheck true b c.args.core ts c.play-core.result.0) c.in-Ok.ensures
+    let plays : Plays g.V.Store c.args.setting.now.precheck true (alone act) c.args.core ts c.play-core.result.0 =
+    subst (λ (b : List Told). Plays g.V.Store c.args.setting.now.precheck true b c.args.core ts c.play-core.result.0) c.in-Ok.ensures
     (ok_holds _ c.play-core.result.1 c.in-Ok-transcripts.transcripts c.in-Ok-transcripts.is c.play-core.ensures.plays) in
     let fused : c.say_failure.result ≡ true → failed_of c.args.core.vault.store < failed_of c.play-core.result.0.vault.store =
     elim c.else-say_failure.branch [
@@ -49,8 +49,8 @@ returns-else-say_failure-clause-acts g c =
       | else-say_failure-via-else-say_failure w ↦ (λ is. let clash : true ≡ false = sym is ∙ w.if-say_failure.false in absurd cc)
     ] in
     IfOk-weaker c.text_alone-text.result (λ text. text.items ≡ flat_map alone_texts c.deref-in-Ok-transcripts.result.now)
-    (λ text. ActsAlone g.V.Store.told g.V.Store.may_leave g.V.Store.moment g.V.Store.left_since g.V.Store.faults c.args.setting.now.precheck act c.args.core text.items c.play-core.result.0)
-    (λ text is. acts_alone g.V.Store.told g.V.Store.may_leave g.V.Store.moment g.V.Store.left_since g.V.Store.faults c.args.setting.now.precheck act c.args.core c.play-core.result.0 ts text.items c.say_failure.result plays c.play-core.ensures.longer c.play-core.ensures.any_moment c.play-core.ensures.places
+    (λ text. ActsAlone g.V.Store c.args.setting.now.precheck act c.args.core text.items c.play-core.result.0)
+    (λ text is. acts_alone g.V.Store c.args.setting.now.precheck act c.args.core c.play-core.result.0 ts text.items c.say_failure.result plays c.play-core.ensures.longer c.play-core.ensures.any_moment c.play-core.ensures.places
     (is ∙ ap (λ (l : List Transcribed). flat_map alone_texts l) c.deref-in-Ok-transcripts.ensures.value)
     (c.say_failure.ensures ∙ ap (λ (l : List Transcribed). list_any says_failure l) c.deref.ensures.value) fused)
     c.text_alone-text.ensures.text
@@ -59,17 +59,17 @@ pub returns-else-say_failure-clause-ends : goal.returns-else-say_failure-clause-
 returns-else-say_failure-clause-ends g c =
     let act = act_of c.args.command.now in
     let ts = c.in-Ok-transcripts.transcripts.items in
-    let plays : Plays g.V.Store.told g.V.Store.may_leave g.V.Store.faults c.args.setting.now.precheck true (alone act) c.args.core ts c.play-core.result.0 =
-    subst (λ (b : List Told). Plays g.V.Store.told g.V.Store.may_leave g.V.Store.faults c.args.setting.now.precheck true b c.args.core ts c.play-core.result.0) c.in-Ok.ensures
+    let plays : Plays g.V.Store c.args.setting.now.precheck true (alone act) c.args.core ts c.play-core.result.0 =
+    subst (λ (b : List Told). Plays g.V.Store c.args.setting.now.precheck true b c.args.core ts c.play-core.result.0) c.in-Ok.ensures
     (ok_holds _ c.play-core.result.1 c.in-Ok-transcripts.transcripts c.in-Ok-transcripts.is c.play-core.ensures.plays) in
-    if_memory c.text_alone-text.result (λ halt. AloneEnds g.V.Store.told g.V.Store.may_leave g.V.Store.moment g.V.Store.left_since g.V.Store.faults c.args.setting.now.precheck halt act c.args.core c.play-core.result.0.vault.store)
-    (played_whole g.V.Store.told g.V.Store.may_leave g.V.Store.moment g.V.Store.left_since g.V.Store.faults c.args.setting.now.precheck (alone act) c.args.core c.play-core.result.0 ts plays c.play-core.ensures.longer c.play-core.ensures.any_moment) c.text_alone-text.ensures.memory
+    if_memory c.text_alone-text.result (λ halt. AloneEnds g.V.Store c.args.setting.now.precheck halt act c.args.core c.play-core.result.0.vault.store)
+    (played_whole g.V.Store c.args.setting.now.precheck (alone act) c.args.core c.play-core.result.0 ts plays c.play-core.ensures.longer c.play-core.ensures.any_moment) c.text_alone-text.ensures.memory
 
 pub returns-in-Err-clause-ends : goal.returns-in-Err-clause-ends
 returns-in-Err-clause-ends g c =
     let act = act_of c.args.command.now in
-    let lost : Played g.V.Store.told g.V.Store.may_leave g.V.Store.moment g.V.Store.left_since g.V.Store.faults c.args.setting.now.precheck (alone act) c.args.core c.play-core.result.0.vault.store =
-    subst (λ (b : List Told). Played g.V.Store.told g.V.Store.may_leave g.V.Store.moment g.V.Store.left_since g.V.Store.faults c.args.setting.now.precheck b c.args.core c.play-core.result.0.vault.store) c.in-Ok.ensures
+    let lost : Played g.V.Store c.args.setting.now.precheck (alone act) c.args.core c.play-core.result.0.vault.store =
+    subst (λ (b : List Told). Played g.V.Store c.args.setting.now.precheck b c.args.core c.play-core.result.0.vault.store) c.in-Ok.ensures
     (on_err_holds c.play-core.result.1 c.in-Err.halt c.in-Err.is c.play-core.ensures.lost).0 in
-    subst (λ halt. AloneEnds g.V.Store.told g.V.Store.may_leave g.V.Store.moment g.V.Store.left_since g.V.Store.faults c.args.setting.now.precheck halt act c.args.core c.play-core.result.0.vault.store)
+    subst (λ halt. AloneEnds g.V.Store c.args.setting.now.precheck halt act c.args.core c.play-core.result.0.vault.store)
     (sym (err_of _ c.play-core.result.1 c.in-Err.halt c.in-Err.is c.play-core.ensures.memory)) (inr lost)

@@ -8,7 +8,7 @@ use Rattle.dali_run.proofs.rounds.round_of.Goals as goal
 
 pub returns-in-Up-clause-steps : goal.returns-in-Up-clause-steps
 returns-in-Up-clause-steps g c =
-    IfOk-weaker c.round_over-core.result.1 (λ text. RunsRound g.V.Store.told g.V.Store.may_leave g.V.Store.moment g.V.Store.left_since g.V.Store.faults c.args.setting.now.precheck (map told_by c.args.told.now) c.in-Up.core text.items c.round_over-core.result.0)
-    (λ text. StepsRound g.V.Store.told g.V.Store.may_leave g.V.Store.moment g.V.Store.left_since g.V.Store.faults c.args.setting.now.precheck c.args.told.now c.args.program text.items (Up c.round_over-core.result.0))
-    (λ text runs. steps_round g.V.Store.told g.V.Store.may_leave g.V.Store.moment g.V.Store.left_since g.V.Store.faults c.args.setting.now.precheck c.args.told.now c.args.program c.in-Up.core c.round_over-core.result.0 text.items c.in-Up.is runs)
+    IfOk-weaker c.round_over-core.result.1 (λ text. RunsRound g.V.Store c.args.setting.now.precheck (map told_by c.args.told.now) c.in-Up.core text.items c.round_over-core.result.0)
+    (λ text. StepsRound g.V.Store c.args.setting.now.precheck c.args.told.now c.args.program text.items (Up c.round_over-core.result.0))
+    (λ text runs. steps_round g.V.Store c.args.setting.now.precheck c.args.told.now c.args.program c.in-Up.core c.round_over-core.result.0 text.items c.in-Up.is runs)
     c.round_over-core.ensures.runs

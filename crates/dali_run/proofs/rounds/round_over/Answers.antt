@@ -23,14 +23,14 @@ returns-in-Ok-transcripts-clause-runs g c =
     let blocks = map told_by c.args.told.now in
     let ts = c.in-Ok-transcripts.transcripts.items in
     let same : map told_of c.deref.result.now ≡ blocks = ap (λ (bs : List Block). map told_of bs) c.deref.ensures.value ∙ c.in-Ok.ensures in
-    let plays : Plays g.V.Store.told g.V.Store.may_leave g.V.Store.faults c.args.setting.now.precheck true blocks c.args.core ts c.play-core.result.0 =
-    subst (λ (b : List Told). Plays g.V.Store.told g.V.Store.may_leave g.V.Store.faults c.args.setting.now.precheck true b c.args.core ts c.play-core.result.0) same
+    let plays : Plays g.V.Store c.args.setting.now.precheck true blocks c.args.core ts c.play-core.result.0 =
+    subst (λ (b : List Told). Plays g.V.Store c.args.setting.now.precheck true b c.args.core ts c.play-core.result.0) same
     (ok_holds _ c.play-core.result.1 c.in-Ok-transcripts.transcripts c.in-Ok-transcripts.is c.play-core.ensures.plays) in
     let tell : TellAll blocks ts =
     subst (λ (b : List Told). TellAll b ts) same (ok_holds _ c.play-core.result.1 c.in-Ok-transcripts.transcripts c.in-Ok-transcripts.is c.play-core.ensures.tell) in
     IfOk-weaker c.text_of_round-text.result (λ text. text.items ≡ said_texts c.deref-in-Ok-transcripts.result.now)
-    (λ text. RunsRound g.V.Store.told g.V.Store.may_leave g.V.Store.moment g.V.Store.left_since g.V.Store.faults c.args.setting.now.precheck blocks c.args.core text.items c.play-core.result.0)
-    (λ text is. runs_round g.V.Store.told g.V.Store.may_leave g.V.Store.moment g.V.Store.left_since g.V.Store.faults c.args.setting.now.precheck blocks c.args.core c.play-core.result.0 ts text.items plays tell
+    (λ text. RunsRound g.V.Store c.args.setting.now.precheck blocks c.args.core text.items c.play-core.result.0)
+    (λ text is. runs_round g.V.Store c.args.setting.now.precheck blocks c.args.core c.play-core.result.0 ts text.items plays tell
     c.play-core.ensures.longer c.play-core.ensures.any_moment c.play-core.ensures.places (is ∙ ap (λ (l : List Transcribed). said_texts l) c.deref-in-Ok-transcripts.ensures.value))
     c.text_of_round-text.ensures.text
 
@@ -40,6 +40,6 @@ returns-in-Ok-transcripts-clause-lost g c =
     let ts = c.in-Ok-transcripts.transcripts.items in
     let same : map told_of c.deref.result.now ≡ blocks = ap (λ (bs : List Block). map told_of bs) c.deref.ensures.value ∙ c.in-Ok.ensures in
     on_err_any c.text_of_round-text.result
-    (played_whole g.V.Store.told g.V.Store.may_leave g.V.Store.moment g.V.Store.left_since g.V.Store.faults c.args.setting.now.precheck blocks c.args.core c.play-core.result.0 ts
-    (subst (λ (b : List Told). Plays g.V.Store.told g.V.Store.may_leave g.V.Store.faults c.args.setting.now.precheck true b c.args.core ts c.play-core.result.0) same
+    (played_whole g.V.Store c.args.setting.now.precheck blocks c.args.core c.play-core.result.0 ts
+    (subst (λ (b : List Told). Plays g.V.Store c.args.setting.now.precheck true b c.args.core ts c.play-core.result.0) same
     (ok_holds _ c.play-core.result.1 c.in-Ok-transcripts.transcripts c.in-Ok-transcripts.is c.play-core.ensures.plays)) c.play-core.ensures.longer c.play-core.ensures.any_moment)

@@ -13,7 +13,7 @@ returns-in-Up-clause-steps g c =
     c.text_of_line-text.ensures.text
 
 pub returns-in-Up-clause-images : goal.returns-in-Up-clause-images
-returns-in-Up-clause-images g c = images_up g.V.Store.told c.args.program c.in-Up.core c.set_fuse.new.self.store c.in-Up.is c.set_fuse.ensures.inner c.requires.images
+returns-in-Up-clause-images g c = images_up g.V.Store c.args.program c.in-Up.core c.set_fuse.new.self.store c.in-Up.is c.set_fuse.ensures.inner c.requires.images
 
 pub returns-in-Down-clause-steps : goal.returns-in-Down-clause-steps
 returns-in-Down-clause-steps g c =

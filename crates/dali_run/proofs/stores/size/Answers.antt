@@ -8,10 +8,10 @@ use Rattle.dali_run.proofs.stores.size.Goals as goal
 pub returns-in-Ok-format-clause-steps : goal.returns-in-Ok-format-clause-steps
 returns-in-Ok-format-clause-steps g c =
     let made = c.in-Ok-format.ensures in
-    format_steps g.V.Store.told g.V.Store.may_leave g.V.Store.moment g.V.Store.left_since g.V.Store.faults c.args.setting.now.limit c.args.index c.args.heap c.args.program c.in-Ok-format.core
+    format_steps g.V.Store c.args.setting.now.limit c.args.index c.args.heap c.args.program c.in-Ok-format.core
     c.new-in-Ok-format.result.items c.new-in-Ok-format.ensures.items
-    (subst (λ (s : Sizes). Formatted g.V.Store.told g.V.Store.may_leave g.V.Store.moment g.V.Store.left_since g.V.Store.faults c.args.setting.now.limit s (store_of c.args.program) c.in-Ok-format.core) c.in-Ok.ensures.1
-    (subst (λ (f : Fuse g.row.V.Denot). Formatted g.V.Store.told g.V.Store.may_leave g.V.Store.moment g.V.Store.left_since g.V.Store.faults c.args.setting.now.limit c.in-Ok.geometry f c.in-Ok-format.core) c.into_store.ensures
+    (subst (λ (s : Sizes). Formatted g.V.Store c.args.setting.now.limit s (store_of c.args.program) c.in-Ok-format.core) c.in-Ok.ensures.1
+    (subst (λ (f : Fuse g.row.V.Denot). Formatted g.V.Store c.args.setting.now.limit c.in-Ok.geometry f c.in-Ok-format.core) c.into_store.ensures
     (record {
       core = made.core;
       whole = made.whole;
@@ -31,6 +31,6 @@ returns-in-Err-clause-fails g c =
     let r = c.in-Err.ensures in
     let e = c.in-Err.refused.error in
     let f = c.in-Err.refused.store in
-    format_fails_over g.V.Store.told g.V.Store.may_leave g.V.Store.moment g.V.Store.left_since g.V.Store.faults c.args.setting.now.precheck c.args.index c.args.heap c.in-Ok.geometry e c.from-halt.result c.args.program c.into_store.result f
+    format_fails_over g.V.Store c.args.setting.now.precheck c.args.index c.args.heap c.in-Ok.geometry e c.from-halt.result c.args.program c.into_store.result f
     c.in-Ok.ensures.1 c.into_store.ensures c.from-halt.ensures
     (record { formatted = r.formatted; wanting = r.wanting; reads = r.reads; errors_are = r.errors; fault = r.fault; kept = r.kept; left = r.leaves })

@@ -18,14 +18,14 @@ returns-clause-ended g c =
     let task = meaning (map string_bytes c.args.words.now) in
     let mid = g.K.Sink.taken c.run_words-store.new.sink in
     let count = g.K.Sink.faults c.run_words-store.new.sink in
-    let before = course g.S.Source.left g.S.Source.faults g.K.Sink.taken g.K.Sink.faults c.args.source.now c.run_words-store.new.source c.args.sink.now c.run_words-store.new.sink c.args.store c.run_words-store.result.0 in
+    let before = course g.S.Source g.K.Sink c.args.source.now c.run_words-store.new.source c.args.sink.now c.run_words-store.new.sink c.args.store c.run_words-store.result.0 in
     let status = sym c.finish-status.ensures.status in
     record {
       mid = mid;
       count = count;
-      ended = ended_still g.V.Store.told g.V.Store.may_leave g.V.Store.moment g.V.Store.left_since g.V.Store.faults g.V.Store.cuts before
+      ended = ended_still g.V.Store before
           (g.K.Sink.taken c.finish-status.new.sink) (g.K.Sink.faults c.finish-status.new.sink) mid count task c.finish-status.result
-          (subst (λ (s : Status). Ended g.V.Store.told g.V.Store.may_leave g.V.Store.moment g.V.Store.left_since g.V.Store.faults g.V.Store.cuts task before mid count s) status c.run_words-store.ensures.ended);
+          (subst (λ (s : Status). Ended g.V.Store task before mid count s) status c.run_words-store.ensures.ended);
       earlier = c.run_words-store.ensures.later;
       kept = λ no. c.run_words-store.ensures.kept (λ e. no (c.finish-status.ensures.status ∙ write_fails c.run_words-store.result.1 e));
       later = c.finish-status.ensures.later;

@@ -1,4 +1,4 @@
-use Rattle.std.proofs.Common.{Some, refl, sym, subst}
+use Rattle.std.proofs.Common.{Some, sym, subst}
 use Rattle.dali_arguments.specs.declared.task.Task.{Task}
 use Rattle.dali_run.specs.Ends.{Ended, course}
 use Rattle.dali_run.specs.Halts.{status_in}
@@ -9,7 +9,7 @@ pub returns-in-Generate-clause-ended : goal.returns-in-Generate-clause-ended
 returns-in-Generate-clause-ended g c =
     let mid = g.K.Sink.taken c.generate.new.sink in
     let count = g.K.Sink.faults c.generate.new.sink in
-    let ran = course g.S.Source.left g.S.Source.faults g.K.Sink.taken g.K.Sink.faults c.args.source.now c.args.source.now c.args.sink.now c.generate.new.sink c.args.store c.generate.result.0 in
-    subst (λ (t : Task). Ended g.V.Store.told g.V.Store.may_leave g.V.Store.moment g.V.Store.left_since g.V.Store.faults g.V.Store.cuts (Some t) ran mid count (status_in c.generate.result.1)) (sym c.in-Generate.is)
-    (generator_ended g.V.Store.told g.V.Store.may_leave g.V.Store.moment g.V.Store.left_since g.V.Store.faults g.V.Store.cuts c.in-Generate.clients c.in-Generate.size c.in-Generate.number ran (refl, refl) mid count c.generate.result.1
+    let ran = course g.S.Source g.K.Sink c.args.source.now c.args.source.now c.args.sink.now c.generate.new.sink c.args.store c.generate.result.0 in
+    subst (λ (t : Task). Ended g.V.Store (Some t) ran mid count (status_in c.generate.result.1)) (sym c.in-Generate.is)
+    (generator_ended g.V.Store c.in-Generate.clients c.in-Generate.size c.in-Generate.number g.S.Source g.K.Sink c.args.source.now c.args.sink.now c.generate.new.sink c.args.store c.generate.result.0 c.generate.result.1
     c.generate.ensures.done c.generate.ensures.stops)

@@ -1,8 +1,9 @@
 use Rattle.std.proofs.Common.{ap, ◌∙◌}
 use Rattle.dali_core.specs.Served.{Served}
-use Rattle.dali_single.proofs.Undoing.{abort_ends, ended_gone, ended_others, others_further}
+use Rattle.dali_calls.proofs.Others.{ended_gone, promises_same, promises_further, promises_ended}
+use Rattle.dali_single.proofs.Undoing.{abort_ends, ended_others, others_further}
 use Rattle.dali_single.proofs.Refusing.{end_stuck, none_next}
-use Rattle.dali_single.proofs.Promising.{promises_same, promises_further, promises_ended, released}
+use Rattle.dali_single.proofs.Promising.{released}
 use Rattle.dali_single.proofs.ending.abort.Goals as goal
 
 pub returns-in-Ok-ended-clause-ok : goal.returns-in-Ok-ended-clause-ok

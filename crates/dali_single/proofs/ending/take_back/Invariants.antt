@@ -1,8 +1,8 @@
 use Rattle.std.proofs.Common.{◌≡◌, IfSome, None, length}
 use Rattle.dali_record.specs.Spelling.{IsUndo}
 use Rattle.dali_att.specs.Table.{undos_at}
-use Rattle.dali_core.specs.TakenBack.{next_undo}
 use Rattle.dali_calls.specs.Flags.{FlagsStay}
+use Rattle.dali_calls.proofs.Undoing.{TakesAllBack}
 use Rattle.dali_single.specs.Ending.{UndoesFrom}
 use Rattle.dali_single.proofs.ending.take_back.Given as goal
 
@@ -11,9 +11,7 @@ invariant-loop-region l = record {
   goes : UndoesFrom l.initial.regions l.initial.system.state l.txn l.regions l.system.state;
   promised : l.system.promised ≡ l.initial.system.promised;
   flags : FlagsStay l.initial.regions l.regions;
-  txn : l.back.txn ≡ l.txn;
-  down : l.back.down_to ≡ 0;
-  next : l.back.next ≡ next_undo (undos_at l.system.state.table l.txn) 0;
+  stands : TakesAllBack l.back l.txn (undos_at l.system.state.table l.txn);
   undoes : IfSome l.back.next (λ u. IsUndo u.undo);
   closed : l.back.operation ≡ None;
 }

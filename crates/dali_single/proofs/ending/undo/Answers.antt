@@ -1,8 +1,9 @@
 use Rattle.std.proofs.Common.{false, ap}
 use Rattle.dali_region.specs.State.{RegionState}
 use Rattle.dali_core.proofs.UnderWays.{latched_unheld}
+use Rattle.dali_calls.proofs.Undoing.{way_back_of, rewritten, undone, promise_kept}
 use Rattle.dali_single.proofs.Refusing.{stop_only}
-use Rattle.dali_single.proofs.Undoing.{way_back_of, rewritten, back_left_over, back_as_before, undone, promise_kept}
+use Rattle.dali_single.proofs.Undoing.{back_left_over, back_as_before}
 use Rattle.dali_single.proofs.ending.undo.Goals as goal
 
 pub write_back-requires : goal.write_back-requires

@@ -9,10 +9,11 @@ use Rattle.dali_system.specs.State.{SystemState, state_of}
 use Rattle.dali_system.specs.Steps.{commit_logged}
 use Rattle.dali_core.specs.Served.{Served, promised_for}
 use Rattle.dali_core.specs.Promised.{Promised, promised_to, used}
+use Rattle.dali_calls.proofs.Others.{promises_further}
 use Rattle.dali_single.specs.Settling.{MayFree, settle_room}
 use Rattle.dali_single.proofs.Going.{row_there}
 use Rattle.dali_single.proofs.Settled.{may_free_all, commit_led, committed_state, commit_others, promise_left}
-use Rattle.dali_single.proofs.Promising.{promises_further, promises_put, promises_used, runs_on, enough_to_commit}
+use Rattle.dali_single.proofs.Promising.{promises_put, promises_used, runs_on, enough_to_commit}
 use Rattle.dali_single.proofs.settling.commit.Goals as goal
 
 pub returns-clause-may : goal.returns-clause-may

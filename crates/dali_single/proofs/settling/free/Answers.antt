@@ -3,9 +3,10 @@ use Rattle.dali_region.specs.State.{RegionState, taken_back}
 use Rattle.dali_core.specs.Served.{Served, solo_room}
 use Rattle.dali_core.proofs.UnderWays.{latched_unheld}
 use Rattle.dali_core.specs.Refused.{stop_of}
+use Rattle.dali_calls.proofs.Others.{promises_same}
 use Rattle.dali_single.proofs.Refusing.{stop_only}
 use Rattle.dali_single.proofs.Settled.{freed, free_left_over, spends_one}
-use Rattle.dali_single.proofs.Promising.{promises_same, promises_used}
+use Rattle.dali_single.proofs.Promising.{promises_used}
 use Rattle.dali_single.proofs.settling.free.Goals as goal
 
 pub returns-in-Ok-solo_op-clause-ok : goal.returns-in-Ok-solo_op-clause-ok

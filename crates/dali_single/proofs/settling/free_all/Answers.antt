@@ -1,9 +1,9 @@
 use Rattle.std.proofs.Common.{refl, arith}
 use Rattle.std.proofs.lemmas.Option.{slice_get-get_or}
 use Rattle.dali_calls.proofs.Flags.{flags_same, flags_set, flags_further}
+use Rattle.dali_calls.proofs.Others.{promises_further}
 use Rattle.dali_single.proofs.Flags.{freed_flag, left_flag}
 use Rattle.dali_single.proofs.Settled.{none_freed, next_further, those_left, removal_stuck, promised_further, promised_still, promised_one, removal_there, free_there, free_further, free_refused}
-use Rattle.dali_single.proofs.Promising.{promises_further}
 use Rattle.dali_single.proofs.settling.free_all.Goals as goal
 
 pub loop-removal-init : goal.loop-removal-init

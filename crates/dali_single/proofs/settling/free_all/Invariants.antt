@@ -1,6 +1,6 @@
 use Rattle.std.proofs.Common.{◌≡◌, ◌+◌, drop, length}
 use Rattle.dali_calls.specs.Flags.{FlagsStay}
-use Rattle.dali_single.specs.Single.{PromisesStay}
+use Rattle.dali_calls.specs.Others.{PromisesStay}
 use Rattle.dali_single.specs.Settling.{AreFreed, IsPromised, settle_room}
 use Rattle.dali_single.proofs.settling.free_all.Given as goal
 

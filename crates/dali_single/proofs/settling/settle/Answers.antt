@@ -1,11 +1,11 @@
 use Rattle.dali_core.specs.Refused.{stop_of}
+use Rattle.dali_calls.proofs.Others.{ended_gone, promises_same, promises_further, promises_ended}
 use Rattle.dali_single.specs.Single.{OthersStay}
 use Rattle.std.proofs.Common.{◌≡◌, true, false, ap, sym, subst, ◌∙◌, []}
 use Rattle.dali_core.specs.Served.{Served}
-use Rattle.dali_single.proofs.Undoing.{ended_gone}
 use Rattle.dali_single.proofs.Settled.{none_behind, settle_ends, settle_refused, settled_others, none_left_again}
 use Rattle.dali_single.proofs.Refusing.{end_stuck}
-use Rattle.dali_single.proofs.Promising.{promises_same, promises_further, promises_ended, released}
+use Rattle.dali_single.proofs.Promising.{released}
 use Rattle.dali_single.proofs.settling.settle.Goals as goal
 
 pub returns-in-Err-ended-clause-err : goal.returns-in-Err-ended-clause-err

@@ -1,5 +1,5 @@
 use Rattle.std.proofs.Common.{◌∙◌}
-use Rattle.dali_single.proofs.Writing.{more_written}
+use Rattle.dali_calls.proofs.Operating.{more_written}
 use Rattle.dali_single.proofs.settling.write_freed.Goals as goal
 
 pub loop-preserved : goal.loop-preserved

@@ -1,6 +1,6 @@
 use Rattle.std.proofs.Common.{◌≡◌, ◌-◌, length}
 use Rattle.dali_core.specs.UnderWay.{IsUnderWay}
-use Rattle.dali_single.specs.Operated.{AreWritten}
+use Rattle.dali_calls.specs.Operating.{AreWritten}
 use Rattle.dali_single.proofs.settling.write_freed.Given as goal
 
 abbrev pub invariant-loop : goal.invariant-loop

@@ -1,7 +1,7 @@
-use Rattle.std.proofs.Common.{◌≡◌, ◌∙◌, ◌++◌, ℕ, ap, length, arith, length-append, List, vec_len}
+use Rattle.std.proofs.Common.{◌≡◌, ◌∙◌, ◌++◌, ap, length, arith, length-append, vec_len}
 use Rattle.dali_batch.specs.Batch.{body_of, Framed}
 use Rattle.dali_batch.proofs.Bytes.{length-frame_of}
-use Rattle.dali_batch.proofs.Frames.{is_frame, written_whole, body_of-frame}
+use Rattle.dali_batch.proofs.Frames.{is_frame, grown, written_whole, body_of-frame}
 use Rattle.dali_batch.proofs.frame.Frame.add.Goals as goal
 
 pub settle-requires-clause-long : goal.settle-requires-clause-long
@@ -15,11 +15,9 @@ invariant_of-self-2 c =
     let body = body_of c.self.inside.bytes.items in
     let added = c.args.bytes.now in
     let long = ap length c.self.invariant.whole ∙ length-frame_of body in
-    let stood = c.deref_mut.ensures.value ∙ c.in_ok-extend_from_slice.ensures.items ∙ ap (λ (l : List ℕ). l ++ added) c.self.invariant.whole in
-    let stands = c.settle.ensures body added stood (omega (arith, c.len-gate.ensures, long)) in
-    let size = ap length stands ∙ length-frame_of (body ++ added) in
-    let count : vec_len c.extend_from_slice.new.self ≡ length c.settle.new.bytes = omega (arith, size, long, c.in_ok-extend_from_slice.ensures.len, length-append body added) in
-    is_frame _ (body ++ added) (written_whole _ c.settle.new.bytes c.extend_from_slice.new.self.items count ∙ stands)
+    let all = grown c.self.inside.bytes.items _ c.settle.new.bytes body added _ c.self.invariant.whole c.settle.ensures (c.deref_mut.ensures.value ∙ c.in_ok-extend_from_slice.ensures.items) (omega (arith, c.len-gate.ensures, long)) in
+    let count : vec_len c.extend_from_slice.new.self ≡ length c.settle.new.bytes = omega (arith, all.1, long, c.in_ok-extend_from_slice.ensures.len, length-append body added) in
+    is_frame _ (body ++ added) (written_whole _ c.settle.new.bytes c.extend_from_slice.new.self.items count ∙ all.0)
     (omega (arith, length-append body added, c.requires, ap (λ (f : Framed). length f.body) c.self.view_is))
 
 pub returns-clause-ok : goal.returns-clause-ok
@@ -27,10 +25,8 @@ returns-clause-ok c =
     let body = body_of c.self.inside.bytes.items in
     let added = c.args.bytes.now in
     let long = ap length c.self.invariant.whole ∙ length-frame_of body in
-    let stood = c.deref_mut.ensures.value ∙ c.in_ok-extend_from_slice.ensures.items ∙ ap (λ (l : List ℕ). l ++ added) c.self.invariant.whole in
-    let stands = c.settle.ensures body added stood (omega (arith, c.len-gate.ensures, long)) in
-    let size = ap length stands ∙ length-frame_of (body ++ added) in
-    let count : vec_len c.extend_from_slice.new.self ≡ length c.settle.new.bytes = omega (arith, size, long, c.in_ok-extend_from_slice.ensures.len, length-append body added) in (
-      ap body_of (written_whole _ c.settle.new.bytes c.extend_from_slice.new.self.items count ∙ stands) ∙ body_of-frame (body ++ added) ∙ ap (λ (f : Framed). f.body ++ added) c.self.view_is,
+    let all = grown c.self.inside.bytes.items _ c.settle.new.bytes body added _ c.self.invariant.whole c.settle.ensures (c.deref_mut.ensures.value ∙ c.in_ok-extend_from_slice.ensures.items) (omega (arith, c.len-gate.ensures, long)) in
+    let count : vec_len c.extend_from_slice.new.self ≡ length c.settle.new.bytes = omega (arith, all.1, long, c.in_ok-extend_from_slice.ensures.len, length-append body added) in (
+      ap body_of (written_whole _ c.settle.new.bytes c.extend_from_slice.new.self.items count ∙ all.0) ∙ body_of-frame (body ++ added) ∙ ap (λ (f : Framed). f.body ++ added) c.self.view_is,
       omega (arith, ap (λ (f : Framed). f.room) c.self.view_is, c.in_ok-extend_from_slice.ensures.len, c.extend_from_slice.ensures.capacity),
     )

@@ -1,11 +1,10 @@
 use Rattle.std.proofs.Common.{◌≡◌, ◌∙◌, ◌+◌, arith, sym, refl, rules, length, take, drop, subst}
 use Rattle.std.specs.Prelude.{IsNone}
 use Rattle.std.proofs.lemmas.Result.{err_from_is_err_and}
-use Rattle.dali_batch.specs.Log.{IsBadFirst}
 use Rattle.dali_batch.specs.Stream.{IsWindow}
 use Rattle.dali_batch.proofs.Finds.{if_some_two, if_some_three, if_some_same}
-use Rattle.dali_batch.proofs.Fronts.{log_bad, first_bad, bad_of_first, first_front, no_format, run_of_front}
-use Rattle.dali_batch.proofs.Streaming.{part_of, empty_window, first_read}
+use Rattle.dali_batch.proofs.Fronts.{log_bad, first_bad, bad_of_first, first_front, run_of_front}
+use Rattle.dali_batch.proofs.Streaming.{part_of, empty_window, no_first, first_read}
 use Rattle.dali_batch.proofs.reader.LogReader.open.Goals as goal
 
 pub returns-in_err-size-clause-bad : goal.returns-in_err-size-clause-bad
@@ -20,14 +19,9 @@ returns-in_default-format_of-clause-bad g c = λ bad e.
     let five : 5 ≡ bad = cc in
     let nothing : IsNone c.format_of.result = search rules in
     let batch = if_some_same _ _ _ c.length.ensures.told (rw c.in-Some.is at c.in_ok-size.ensures.batch) in
-    let window = if_some_same _ _ _ c.length.ensures.told c.in_ok-size.ensures.window in
     let there = rw c.in-Some.is at c.in_ok-size.ensures.there in
-    if_some_three _ _ _ _ (g.V.Store.told c.args.store.now) c.in_ok-length.ensures.length batch window (λ fs long is opens.
-    let start = empty_window fs.log _ long c.new.ensures.items refl in
-    let found = is start in
-    let seen = opens start in
-    let body = part_of fs.log c.batch_at.new.self 5 c.in-Some.size seen there.0 in
-    subst (IsBadFirst fs.log) five (no_format fs.log (take c.in-Some.size (drop (0 + 5) fs.log)) found.0 (λ index heap can same. c.format_of.ensures.none nothing index heap can (c.part.ensures ∙ body.1 ∙ same))))
+    if_some_three _ _ _ _ (g.V.Store.told c.args.store.now) c.in_ok-length.ensures.length batch (if_some_same _ _ _ c.length.ensures.told c.in_ok-size.ensures.window)
+    (λ fs long is opens. no_first fs.log _ c.batch_at.new.self c.in-Some.size bad _ is opens (empty_window fs.log _ long c.new.ensures.items refl) there.0 c.part.ensures (c.format_of.ensures.none nothing) five)
 
 pub returns-in_err-size-clause-log : goal.returns-in_err-size-clause-log
 returns-in_err-size-clause-log g c =
@@ -41,14 +35,9 @@ returns-in_default-format_of-clause-log g c = λ bad e.
     let five : 5 ≡ bad = cc in
     let nothing : IsNone c.format_of.result = search rules in
     let batch = if_some_same _ _ _ c.length.ensures.told (rw c.in-Some.is at c.in_ok-size.ensures.batch) in
-    let window = if_some_same _ _ _ c.length.ensures.told c.in_ok-size.ensures.window in
     let there = rw c.in-Some.is at c.in_ok-size.ensures.there in
-    if_some_three _ _ _ _ (g.V.Store.told c.args.store.now) c.in_ok-length.ensures.length batch window (λ fs long is opens.
-    let start = empty_window fs.log _ long c.new.ensures.items refl in
-    let found = is start in
-    let seen = opens start in
-    let body = part_of fs.log c.batch_at.new.self 5 c.in-Some.size seen there.0 in
-    bad_of_first fs.log bad (subst (IsBadFirst fs.log) five (no_format fs.log (take c.in-Some.size (drop (0 + 5) fs.log)) found.0 (λ index heap can same. c.format_of.ensures.none nothing index heap can (c.part.ensures ∙ body.1 ∙ same)))))
+    if_some_three _ _ _ _ (g.V.Store.told c.args.store.now) c.in_ok-length.ensures.length batch (if_some_same _ _ _ c.length.ensures.told c.in_ok-size.ensures.window)
+    (λ fs long is opens. bad_of_first fs.log bad (no_first fs.log _ c.batch_at.new.self c.in-Some.size bad _ is opens (empty_window fs.log _ long c.new.ensures.items refl) there.0 c.part.ensures (c.format_of.ensures.none nothing) five))
 
 pub returns-clause-first : goal.returns-clause-first
 returns-clause-first g c =

@@ -2,7 +2,7 @@ use Rattle.std.proofs.Common.{sym, subst}
 use Rattle.std.specs.Prelude.{IsSomeAnd}
 use Rattle.dali_system.specs.State.{state_of}
 use Rattle.dali_core.specs.Served.{Served}
-use Rattle.dali_cleanup.specs.Cleaned.{is_claimed}
+use Rattle.dali_calls.specs.TakingBack.{is_claimed}
 use Rattle.dali_cleanup.proofs.Claims.{claimed_now}
 use Rattle.dali_cleanup.proofs.cleaning.Cleaning.claim.Goals as goal
 

@@ -2,7 +2,8 @@ use Rattle.std.proofs.Common.{sym, subst}
 use Rattle.std.specs.Prelude.{IsSomeAnd}
 use Rattle.dali_system.specs.State.{state_of}
 use Rattle.dali_system.specs.Regions.{IsOpen}
-use Rattle.dali_cleanup.specs.Cleaned.{Cleaned, is_claimed}
+use Rattle.dali_calls.specs.TakingBack.{is_claimed}
+use Rattle.dali_cleanup.specs.Cleaned.{Cleaned}
 use Rattle.dali_cleanup.proofs.Claims.{claimed_behind}
 use Rattle.dali_cleanup.proofs.cleaning.Cleaning.commit.Goals as goal
 

@@ -2,18 +2,13 @@ use Rattle.std.proofs.Common.{◌≡◌, [], ◌∷◌, ◌++◌, length, rules,
 use Rattle.std.specs.Prelude.{vec_len}
 use Rattle.dali_core.specs.Journaled.{Journaled}
 use Rattle.dali_core.specs.Promised.{Promised}
-use Rattle.dali_core.proofs.Journals.{push_spelled, small_of, kept_same, kept_push, view_same, view_push, few, on_err, same_memory}
+use Rattle.dali_core.proofs.Journals.{push_spelled, small_of, kept_same, kept_push, view_same, view_push, few, on_err, same_memory, grown_memory}
 use Rattle.dali_core.proofs.journal.Journal.push.Goals as goal
 
 pub invariant_of-self : goal.invariant_of-self
 invariant_of-self c = (
   kept_same c.self.inside.bytes.items c.write.new.bytes.items c.self.inside.spelled c.in_err-write.self-1-own.given.0 c.self.inside.frame c.write.new.frame c.self.inside.count c.self.inside.taken c.in_err-write.ensures.err.0 c.in_err-write.ensures.err.2 c.in_err-write.ensures.err.3 c.self.invariant.0,
-  record {
-    bytes = omega (arith, c.self.invariant.1.bytes, c.in_err-write.ensures.err.1, c.in_err-write.ensures.kept.0);
-    frame = omega (arith, c.self.invariant.1.frame, c.in_err-write.ensures.kept.1);
-    few = rw c.in_err-write.ensures.err.2 c.self.invariant.1.few;
-    small = omega (arith, c.self.invariant.1.small, c.in_err-write.ensures.err.1);
-  },
+  grown_memory _ _ _ _ _ _ _ c.in_err-write.ensures.err.1 c.in_err-write.ensures.err.2 c.in_err-write.ensures.kept.0 c.in_err-write.ensures.kept.1 c.self.invariant.1,
 )
 
 pub returns-in_err-write-clause-err : goal.returns-in_err-write-clause-err

@@ -18,9 +18,9 @@ update-requires c = has_read c.args.self.now.txn c.args.self.now.block c.args.se
 
 pub returns-clause-under_way : goal.returns-clause-under_way
 returns-clause-under_way c =
-    let now = c.update.ensures ∙ ap (λ (vs : List ℕ). updated (lowest c.args.self.now.left) (get_or vs c.args.self.now.taken 0) c.args.region.now) c.as_slice.ensures.words in
+    let now = c.update.ensures.after ∙ ap (λ (vs : List ℕ). updated (lowest c.args.self.now.left) (get_or vs c.args.self.now.taken 0) c.args.region.now) c.as_slice.ensures.words in
     subst (IsUnderWay c.args.self.now.txn c.args.self.now.block (bit_and c.args.self.now.left (c.args.self.now.left - 1)) (c.args.self.now.taken + 1)) (sym now)
     (goes_on c.args.self.now.txn c.args.self.now.block c.args.self.now.left c.args.self.now.taken c.args.region.now c.requires (some_left c.args.self.now.left c.if-self-eq0.false))
 
 pub returns-clause-step : goal.returns-clause-step
-returns-clause-step c e = (refl, (lowest c.args.self.now.left, get_or c.as_slice.result.now c.args.self.now.taken 0, (has_read c.args.self.now.txn c.args.self.now.block c.args.self.now.left c.args.self.now.taken c.args.region.now c.requires (some_left c.args.self.now.left c.if-self-eq0.false), search rules), c.update.ensures))
+returns-clause-step c e = (refl, (lowest c.args.self.now.left, get_or c.as_slice.result.now c.args.self.now.taken 0, (has_read c.args.self.now.txn c.args.self.now.block c.args.self.now.left c.args.self.now.taken c.args.region.now c.requires (some_left c.args.self.now.left c.if-self-eq0.false), search rules), c.update.ensures.after))

@@ -1,10 +1,9 @@
 use Rattle.std.proofs.Common.{arith}
-use Rattle.dali_record.specs.Blocks.{AreWords}
-use Rattle.dali_record.proofs.Made.{made_is_block, all_fit}
+use Rattle.dali_words.proofs.Widths.{are_words}
+use Rattle.dali_record.proofs.Made.{made_is_block}
 use Rattle.dali_record.proofs.operations.Block.make.Goals as goal
 
 pub returns-clause-spelled : goal.returns-clause-spelled
 returns-clause-spelled c =
-    let words : AreWords c.args.words.now = (c.told-words, all_fit c.args.words.now c.fits-words) in
     rw (c.fill_under.ensures, c.xor_under-self.ensures, c.effect-found.ensures.row)
-    (made_is_block c.args.op c.args.key c.args.region c.args.words.now c.requires (omega (arith, c.ranges.key.fits)) (omega (arith, c.ranges.region.fits)) words)
+    (made_is_block c.args.op c.args.key c.args.region c.args.words.now c.requires (omega (arith, c.ranges.key.fits)) (omega (arith, c.ranges.region.fits)) (are_words c.args.words.now c.told-words c.fits-words))

@@ -21,7 +21,7 @@ returns-in_err-finish-in-None-clause-goes g c = λ precheck.
 pub returns-in_ok-finish-in-Some-clause-goes : goal.returns-in_ok-finish-in-Some-clause-goes
 returns-in_ok-finish-in-Some-clause-goes g c = λ precheck.
     pokes_region g.V.Store.told g.V.Store.may_leave g.V.Store.faults precheck c.args.core.now.regions.items c.args.core.now.system.state c.args.core.now.vault c.args.client.now c.finish.new.self c.args.region c.args.word c.args.mask
-    c.in-Some.region.now c.poke.new.self c.requires.next (lent_there c.args.core.now.regions.items c.args.region c.in-Some.region.now c.in-Some.ensures.item.3.0 c.in-Some.ensures.value) c.poke.ensures c.in_ok-finish-in-Some.ensures.ok
+    c.in-Some.region.now c.poke.new.self c.requires.next (lent_there c.args.core.now.regions.items c.args.region c.in-Some.region.now c.in-Some.ensures.item.3.0 c.in-Some.ensures.value) c.poke.ensures.after c.in_ok-finish-in-Some.ensures.ok
 
 pub returns-in_ok-finish-in-None-clause-goes : goal.returns-in_ok-finish-in-None-clause-goes
 returns-in_ok-finish-in-None-clause-goes g c = λ precheck.
@@ -43,7 +43,7 @@ pub returns-in_err-finish-in-None-clause-places : goal.returns-in_err-finish-in-
 returns-in_err-finish-in-None-clause-places g c = places_still g.V.Store.told Outside c.finish-in-None.new.self.state c.args.core.now.regions.items c.args.core.now.regions.items c.args.core.now.vault c.args.core.now.vault refl refl (at_state g.V.Store.told _ _ c.finish-in-None.new.self.state Outside c.args.core.now.vault c.in_err-finish-in-None.ensures.err.stands tt)
 
 pub returns-in_ok-finish-in-Some-clause-places : goal.returns-in_ok-finish-in-Some-clause-places
-returns-in_ok-finish-in-Some-clause-places g c = places_beside g.V.Store.told Outside c.finish.new.self.state c.args.core.now.regions.items _ c.args.core.now.vault c.args.core.now.vault (poked_flags c.args.core.now.regions.items c.args.region c.args.word c.args.mask c.in-Some.region.now c.poke.new.self (lent_there c.args.core.now.regions.items c.args.region c.in-Some.region.now c.in-Some.ensures.item.3.0 c.in-Some.ensures.value) c.poke.ensures) refl (at_state g.V.Store.told _ _ c.finish.new.self.state Outside c.args.core.now.vault c.in_ok-finish-in-Some.ensures.ok.stands tt)
+returns-in_ok-finish-in-Some-clause-places g c = places_beside g.V.Store.told Outside c.finish.new.self.state c.args.core.now.regions.items _ c.args.core.now.vault c.args.core.now.vault (poked_flags c.args.core.now.regions.items c.args.region c.args.word c.args.mask c.in-Some.region.now c.poke.new.self (lent_there c.args.core.now.regions.items c.args.region c.in-Some.region.now c.in-Some.ensures.item.3.0 c.in-Some.ensures.value) c.poke.ensures.after) refl (at_state g.V.Store.told _ _ c.finish.new.self.state Outside c.args.core.now.vault c.in_ok-finish-in-Some.ensures.ok.stands tt)
 
 pub returns-in_ok-finish-in-None-clause-places : goal.returns-in_ok-finish-in-None-clause-places
 returns-in_ok-finish-in-None-clause-places g c = places_still g.V.Store.told Outside c.finish-in-None.new.self.state c.args.core.now.regions.items c.args.core.now.regions.items c.args.core.now.vault c.args.core.now.vault refl refl (at_state g.V.Store.told _ _ c.finish-in-None.new.self.state Outside c.args.core.now.vault c.in_ok-finish-in-None.ensures.ok.stands tt)

@@ -2,16 +2,16 @@
 use Rattle.std.proofs.Common.{◌≡◌, ℕ, zero, suc, ◌+◌, ◌≤◌, Bool, true, false, cond, List, [], ◌∷◌, fold, Option, Some, None, refl, ap, sym, subst, ◌∙◌, arith}
 use Rattle.std.specs.Prelude.{◌==◌, IsSome, slice_get}
 use Rattle.dali_geometry.specs.Sizes.{Sizes}
-use Rattle.dali_counts.specs.Counts.{next_with}
-use Rattle.dali_counts.proofs.Lists.{and_left, equal, some_same}
-use Rattle.dali_counts.proofs.Tallies.{tells_step, if_kept, if_none}
 use Rattle.dali_record.specs.declared.records.Record.{Record}
 use Rattle.dali_record.specs.declared.records.Record.TheVariants.{Begin}
 use Rattle.dali_record.specs.Legal.{Rules, rules_state, rules_next, rules_step, rules_first, rules_behind, runs, has_room}
-use Rattle.dali_counts.proofs.Fronts.{none_rules}
+use Rattle.dali_counts.specs.Counts.{next_with}
+use Rattle.dali_counts.proofs.Lists.{and_left, equal, some_same}
+use Rattle.dali_counts.proofs.Tallies.{tells_step, if_kept, if_none}
 use Rattle.dali_counts.proofs.NewNumbers.{next_grows}
+use Rattle.dali_counts.proofs.Fronts.{none_rules}
 
-begin_number : (s : Sizes) (h : Rules) (u : ℕ) → IsSome (rules_step s h (Begin u)) → u ≡ h.next
+pub begin_number : (s : Sizes) (h : Rules) (u : ℕ) → IsSome (rules_step s h (Begin u)) → u ≡ h.next
 begin_number s h u k = by_test (h.count == 0) k
   where
     by_test : (c : Bool) → IsSome (cond c (rules_first s h (Begin u)) (rules_behind s h (Begin u))) → u ≡ h.next

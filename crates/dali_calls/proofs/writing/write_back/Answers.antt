@@ -1,7 +1,7 @@
 use Rattle.std.proofs.Common.{◌∙◌, ap}
 use Rattle.dali_core.specs.declared.take_back.TakeBack.{TakeBack}
-use Rattle.dali_clean.proofs.Writing.{more_written, still_same}
-use Rattle.dali_clean.proofs.undoing.write_back.Goals as goal
+use Rattle.dali_calls.proofs.Operating.{more_written, still_same}
+use Rattle.dali_calls.proofs.writing.write_back.Goals as goal
 
 pub loop-preserved : goal.loop-preserved
 loop-preserved c = record {

@@ -1,4 +1,4 @@
--- Numbers that rise, and the keys of a table.
+-- Numbers that rise, lists that rise and have the same ones, and the keys of a map.
 --     Up xs                    each number of xs is below all later ones
 use Rattle.std.proofs.Common.{◌≡◌, ℕ, suc, ◌<◌, ◌≤◌, Bool, true, false, cond, List, [], ◌∷◌, map, refl, ap, sym, subst, ◌∙◌, ⊎_elim, arith}
 use Rattle.std.specs.Prelude.{◌==◌, ◌||◌, ⊤, T, is_some, filter}
@@ -6,6 +6,7 @@ use Rattle.std.specs.List.{AllByRecursion, AllPairs, list_any}
 use Rattle.std.specs.List.Sorted.{IsStrictlyIncreasing}
 use Rattle.std.proofs.Math.Path.{fun_ext}
 use Rattle.std.specs.FinMap as finite
+use Rattle.std.specs.FinMap.{FinMap}
 use Rattle.std.specs.FinMap.Entries.{is_sorted, below_all}
 use Rattle.std.specs.Ordering.{nat_cmp, eq_by_cmp}
 use Rattle.std.specs.Cmp.{nat_cmp_total, eq_by_cmp_equiv, unsigned_tied}
@@ -14,8 +15,6 @@ use Rattle.std.proofs.lemmas.List.Kept.{AllPairs-from_increasing}
 use Rattle.dali_lists.proofs.Members.{all_greater}
 use Rattle.dali_lists.proofs.Numbers.{cmp_less}
 use Rattle.dali_lists.proofs.Tests.{T_left, T_right}
-use Rattle.dali_att.specs.Table.{Table, Row}
-use Rattle.dali_record.specs.declared.operations.Pending.{Pending}
 use Rattle.dali_record.specs.Damage.{has}
 use Rattle.dali_history.proofs.Members.{here_too}
 
@@ -64,36 +63,36 @@ same_up (x ∷ xs) (y ∷ ys) up vp same =
     by_test one t false e =
         sym (ap (λ (b : Bool). b || has xs t) e) ∙ same t ∙ ap (λ (b : Bool). b || has ys t) (ap (λ (z : ℕ). z == t) (sym one) ∙ e)
 
+-- ---- a part of a list that rises
+pub all_filter : (x : ℕ) (p : ℕ → Bool) (xs : List ℕ) → AllByRecursion (λ z. x < z) xs → AllByRecursion (λ z. x < z) (filter p xs)
+all_filter x p [] h = tt
+all_filter x p (y ∷ ys) h = by_test (all_filter x p ys h.1) (p y)
+  where
+    by_test : AllByRecursion (λ z. x < z) (filter p ys) → (b : Bool) → AllByRecursion (λ z. x < z) (cond b (y ∷ filter p ys) (filter p ys))
+    by_test rest true = (h.0, rest)
+    by_test rest false = rest
+
 pub up_filter : (p : ℕ → Bool) (xs : List ℕ) → Up xs → Up (filter p xs)
 up_filter p [] up = tt
 up_filter p (x ∷ xs) up = by_test (up_filter p xs up.1) (p x)
   where
-    all_filter : (ys : List ℕ) → AllByRecursion (λ z. x < z) ys → AllByRecursion (λ z. x < z) (filter p ys)
-    all_filter [] h = tt
-    all_filter (y ∷ ys) h = by_one (all_filter ys h.1) (p y)
-      where
-        by_one : AllByRecursion (λ z. x < z) (filter p ys) → (b : Bool) → AllByRecursion (λ z. x < z) (cond b (y ∷ filter p ys) (filter p ys))
-        by_one rest true = (h.0, rest)
-        by_one rest false = rest
-
     by_test : Up (filter p xs) → (b : Bool) → Up (cond b (x ∷ filter p xs) (filter p xs))
-    by_test rest true = (all_filter xs up.0, rest)
+    by_test rest true = (all_filter x p xs up.0, rest)
     by_test rest false = rest
 
--- ---- the keys of a table rise
-
-keys_above : (x : ℕ) (es : List (ℕ × Row Pending)) → T (below_all nat_cmp x es) → AllByRecursion (λ y. x < y) (map (λ e. e.0) es)
+-- ---- the keys of a map rise
+keys_above : {X : Type 0} (x : ℕ) (es : List (ℕ × X)) → T (below_all nat_cmp x es) → AllByRecursion (λ y. x < y) (map (λ e. e.0) es)
 keys_above x [] p = tt
 keys_above x (e ∷ es) p = (cmp_less x e.0 (nat_cmp x e.0) refl (T_left _ _ p), keys_above x es (T_right _ _ p))
 
-entries_up : (es : List (ℕ × Row Pending)) → T (is_sorted nat_cmp es) → Up (map (λ e. e.0) es)
+entries_up : {X : Type 0} (es : List (ℕ × X)) → T (is_sorted nat_cmp es) → Up (map (λ e. e.0) es)
 entries_up [] p = tt
 entries_up (e ∷ es) p = (keys_above e.0 es (T_left _ _ p), entries_up es (T_right _ _ p))
 
-pub keys_up : (m : Table Pending) → Up (finite.keys m)
+pub keys_up : {X : Type 0} (m : FinMap nat_cmp X) → Up (finite.keys m)
 keys_up m = entries_up (finite.entries m) (finite.entries_sorted m)
 
-pub has_keys : (m : Table Pending) (t : ℕ) → has (finite.keys m) t ≡ is_some (finite.get m t)
+pub has_keys : {X : Type 0} (m : FinMap nat_cmp X) (t : ℕ) → has (finite.keys m) t ≡ is_some (finite.get m t)
 has_keys m t =
     let tests : (λ (x : ℕ). x == t) ≡ eq_by_cmp nat_cmp t = fun_ext (λ x. sym ((eq_by_cmp_equiv nat_cmp_total).symm t x ∙ unsigned_tied x t)) in
     ap (λ (p : ℕ → Bool). list_any p (finite.keys m)) tests ∙ sym (finite.contains_key-keys m t)

@@ -9,14 +9,15 @@ use Rattle.dali_region.specs.State.{RegionState, latched, with_reads, touched, t
 use Rattle.dali_att.specs.Table.{undos_at, last_of as table_last}
 use Rattle.dali_system.specs.Steps.{back_logged}
 use Rattle.dali_system.specs.Regions.{RegionStep, TakeBack as TakesRegionBack, IsOpen}
+use Rattle.dali_system.proofs.Tables.{last_same}
 use Rattle.dali_core.specs.declared.operation.Operation.{Operation}
 use Rattle.dali_core.specs.declared.take_back.TakeBack.{TakeBack}
 use Rattle.dali_core.specs.declared.want.Want.TheVariants.{Region}
 use Rattle.dali_core.specs.TakenBack.{next_undo, want_of, IsUndoBlock, IsUndoOn}
 use Rattle.dali_core.specs.UnderWay.{IsUnderWay}
 use Rattle.dali_core.specs.Served.{Served}
-use Rattle.dali_clean.specs.Undone.{AreWritten, Goes, Undone, IsTakenBack}
-use Rattle.dali_clean.proofs.Writing.{IsWay, IsSameWay, opened_by, goes_on, live_hold}
+use Rattle.dali_calls.specs.Operating.{IsHeldBy, AreWritten, Goes, IsTakenBack, Undone}
+use Rattle.dali_calls.proofs.Operating.{IsWay, IsSameWay, opened_by, goes_on, held_open}
 
 -- ---- the operation of an undo
 pub record Rewritten (p : TakeBack) (g : RegionState) (q : TakeBack) (h : RegionState) : Type 0 where
@@ -67,8 +68,8 @@ rewritten p p1 p2 g g1 g2 free made on one opened same two w = by_both p1.operat
 
 pub is_taken_back : (p q : TakeBack) (g h k : RegionState) → Rewritten p g q h → k ≡ taken_back h → IsTakenBack p.txn g k
 is_taken_back p q g h k w is =
-    let held = live_hold h w.operation.txn w.operation.block w.is_open in
-    (w.steps ++ TakesRegionBack ∷ [], goes_on p.txn g h k w.steps (TakesRegionBack ∷ []) w.goes (held.1, held.0, sym is), ap (λ (x : RegionState). x.hold) is)
+    let held = held_open h w.operation.txn w.operation.block w.is_open in
+    (w.steps ++ TakesRegionBack ∷ [], goes_on p.txn g h k w.steps (TakesRegionBack ∷ []) w.goes (held.1, subst (λ (n : ℕ). IsHeldBy n h) w.txn held.0, sym is), ap (λ (x : RegionState). x.hold) is)
 
 pub promise_kept : (p q : TakeBack) (g h k : RegionState) (y z : Served) → Rewritten p g q h → IfSome q.operation (λ o. (z ≡ record y { state = back_logged y.state q.txn o.block }) × (k ≡ touched h)) → z.promised ≡ y.promised
 promise_kept p q g h k y z w ok =
@@ -95,11 +96,6 @@ undone p q r g h k y z w ok next runs =
     }
 
 -- ---- the last undo
-last_same : (us : List Pending) → table_last us ≡ last_of us
-last_same [] = refl
-last_same (u ∷ []) = refl
-last_same (u ∷ v ∷ us) = let e : length (u ∷ v ∷ us) - 1 ≡ suc (length (v ∷ us) - 1) = omega arith in rw e (last_same (v ∷ us))
-
 pub next_last : (us : List Pending) (u : Pending) → next_undo us 0 ≡ Some u → last_of us ≡ Some u
 next_last us u e = by_test (nat_lt 0 (length us)) refl
   where
@@ -110,18 +106,22 @@ next_last us u e = by_test (nat_lt 0 (length us)) refl
         never : (let n : Option Pending = None in n ≡ Some u) → ⊥
         never f = cc
 
-pub fewer : (us : List Pending) (u : Pending) → last_of us ≡ Some u → length (drop_last us) < length us
-fewer [] u e = absurd (never e)
+pub drop_one : (us : List Pending) (u : Pending) → last_of us ≡ Some u → length (drop_last us) < length us
+drop_one [] u e = absurd (never e)
   where
     never : (let n : Option Pending = None in n ≡ Some u) → ⊥
     never f = cc
-fewer (v ∷ []) u e = omega arith
-fewer (v ∷ w ∷ us) u e = omega (arith, fewer (w ∷ us) u e)
+drop_one (v ∷ []) u e = omega arith
+drop_one (v ∷ w ∷ us) u e = omega (arith, drop_one (w ∷ us) u e)
 
 -- ---- what the plan wants
 pub wanted_undo : (o : Option Pending) (r : ℕ) → Region r ≡ want_of o → (u : Pending) × (o ≡ Some u) × (u.region ≡ r)
 wanted_undo None r e = absurd cc
 wanted_undo (Some u) r e = (u, refl, cc)
+
+-- all undos of t are to be taken back, the last one first
+abbrev pub TakesAllBack : TakeBack → ℕ → List Pending → Type 0
+TakesAllBack b t us = (b.txn ≡ t) × (b.down_to ≡ 0) × (b.next ≡ next_undo us 0)
 
 pub none_wanted : (us : List Pending) (o : Option Pending) → o ≡ next_undo us 0 → ((r : ℕ) → want_of o ≡ Region r → ⊥) → us ≡ []
 none_wanted [] o e f = refl

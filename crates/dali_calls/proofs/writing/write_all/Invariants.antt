@@ -1,9 +1,9 @@
 use Rattle.std.proofs.Common.{◌≡◌, IsSomeAnd, IfSome}
 use Rattle.dali_core.specs.UnderWay.{IsUnderWay}
 use Rattle.dali_calls.specs.Plans.{with_operation}
-use Rattle.dali_single.specs.Operated.{AreWritten}
-use Rattle.dali_single.proofs.Writing.{words_left}
-use Rattle.dali_single.proofs.operate.write_all.Given as goal
+use Rattle.dali_calls.specs.Operating.{AreWritten}
+use Rattle.dali_calls.proofs.Operating.{words_left}
+use Rattle.dali_calls.proofs.writing.write_all.Given as goal
 
 abbrev pub invariant-loop : goal.invariant-loop
 invariant-loop l = record {

@@ -1,8 +1,8 @@
 use Rattle.std.proofs.Common.{◌≡◌, IsSomeAnd, IfSome}
 use Rattle.dali_core.specs.UnderWay.{IsUnderWay}
-use Rattle.dali_clean.specs.Undone.{AreWritten}
-use Rattle.dali_clean.proofs.Writing.{words_left}
-use Rattle.dali_clean.proofs.undoing.write_back.Given as goal
+use Rattle.dali_calls.specs.Operating.{AreWritten}
+use Rattle.dali_calls.proofs.Operating.{words_left}
+use Rattle.dali_calls.proofs.writing.write_back.Given as goal
 
 abbrev pub invariant-loop : goal.invariant-loop
 invariant-loop l = record {

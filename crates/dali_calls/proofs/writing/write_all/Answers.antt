@@ -1,7 +1,7 @@
 use Rattle.std.proofs.Common.{◌∙◌, ap}
 use Rattle.dali_calls.specs.Plans.{Planned, with_operation}
-use Rattle.dali_single.proofs.Writing.{more_written, still_same}
-use Rattle.dali_single.proofs.operate.write_all.Goals as goal
+use Rattle.dali_calls.proofs.Operating.{more_written, still_same}
+use Rattle.dali_calls.proofs.writing.write_all.Goals as goal
 
 pub loop-preserved : goal.loop-preserved
 loop-preserved c = record {
