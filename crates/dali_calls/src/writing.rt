@@ -9,7 +9,7 @@ use crate::plan::Plan;
 use dali_core::TakeBack;
 use dali_region::Region;
 
-/// Writes all words of a plan's open operation.
+/// Writes all words of a plan's open operation, which is under way on this region. Takes no memory.
 pub fn write_all(plan: &mut Plan, region: &mut Region)
     requires { IsSomeAnd plan.old.operation (λ o. IsUnderWay o.txn o.block o.left o.taken region.old) }
     ensures is_open { IsSomeAnd plan.new.operation (λ o. IsOpen region.new o.txn o.block) }
@@ -20,7 +20,7 @@ pub fn write_all(plan: &mut Plan, region: &mut Region)
     while plan.update(region) {}
 }
 
-/// Writes all words of the open operation that performs an undo.
+/// Writes all words of the open operation that performs an undo, and is under way on this region. Takes no memory.
 pub fn write_back(back: &mut TakeBack, region: &mut Region)
     requires { IsSomeAnd back.old.operation (λ o. IsUnderWay o.txn o.block o.left o.taken region.old) }
     ensures is_open { IsSomeAnd back.new.operation (λ o. IsOpen region.new o.txn o.block) }

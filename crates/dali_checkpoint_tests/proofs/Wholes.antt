@@ -7,17 +7,17 @@ use Rattle.std.specs.Ordering.{nat_cmp}
 use Rattle.dali_geometry.specs.Sizes.{Sizes}
 use Rattle.dali_geometry.specs.Places.{regions}
 use Rattle.dali_att.specs.Table.{Table, fresh_row}
-use Rattle.dali_att.specs.declared.state.State.TheVariants.{Dead, Live}
+use Rattle.dali_att.specs.declared.state.State.TheVariants.{Dead}
 use Rattle.dali_att.proofs.Changes.{get-added}
 use Rattle.dali_record.specs.declared.operations.Pending.{Pending}
 use Rattle.dali_region.specs.declared.Hold.{Hold}
 use Rattle.dali_region.specs.State.{RegionState}
 use Rattle.dali_store.specs.Store.{Files as Disk}
-use Rattle.dali_system.specs.State.{SystemState, VaultState, hold_in, state_in}
-use Rattle.dali_system.specs.Wholes.{IsWhole, AreOfKind}
+use Rattle.dali_system.specs.State.{SystemState, hold_in, state_in}
+use Rattle.dali_system.specs.Wholes.{AreOfKind}
 use Rattle.dali_vault.specs.Vaulted.{Vaulted}
-use Rattle.dali_whole.specs.Cores.{HoldsPlaces, IsWholeCore}
-use Rattle.dali_checkpoint_tests.specs.Flags.{IsUncopied, IsFresh, HasBegun}
+use Rattle.dali_whole.specs.Cores.{IsWholeCore}
+use Rattle.dali_checkpoint_tests.specs.Flags.{IsFresh, HasBegun}
 use Rattle.dali_checkpoint_tests.proofs.Places.{uncopied_places}
 
 no_hold : (g h : RegionState) (r : ℕ) (k : Hold) → IsFresh g → IsFresh h → hold_in (slice_get (g ∷ h ∷ []) r) ≡ Some k → ⊥

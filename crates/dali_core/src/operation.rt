@@ -24,7 +24,7 @@ pub struct Operation {
 impl Operation {
     /// Latches the region with this number for the transaction, notes what the operation on this key reads, and makes
     /// its block. Refused exactly as the latch; the region is then as before. With precheck the region's codeword tells
-    /// no stray write. The operation names a cell from 1 to 7 or an entry from 0 to 20.
+    /// no stray write. A cell that the operation names is from 1 to 7, and an entry from 0 to 20.
     pub fn start(
         region: &mut Region,
         number: u32,

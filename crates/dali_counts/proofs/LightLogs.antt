@@ -10,20 +10,19 @@ use Rattle.dali_lists.proofs.Lists.{get_push}
 use Rattle.dali_lists.proofs.Options.{some_same}
 use Rattle.dali_lists.proofs.Tests.{left_true}
 use Rattle.dali_geometry.specs.Sizes.{Sizes}
-use Rattle.dali_geometry.specs.Places.{regions}
 use Rattle.dali_record.specs.declared.records.Record.{Record}
 use Rattle.dali_record.specs.declared.records.Record.TheVariants.{Format, Begin, Forward, Done, Commit, Ended, Solo, AuditBegin, AuditClean, AuditFail, Restarted, Back}
 use Rattle.dali_record.specs.Damage.{has, rolled_list, deleted_list}
 use Rattle.dali_record.specs.Epochs.{last_epoch}
 use Rattle.dali_record.specs.Spelling.{record_length, CanBeSpelled}
-use Rattle.dali_record.specs.Legal.{TxnState, Unbegun, Active, Committed as Ending, Over, txn_state, txn_next, Rules, kept_if, runs, passes, restarts, rules_state, rules_first, rules_behind, rules_start, rules_step, IsLegalFor, TellsScan}
+use Rattle.dali_record.specs.Legal.{TxnState, Unbegun, Active, Committed as Ending, Over, txn_state, txn_next, Rules, kept_if, passes, rules_state, rules_first, rules_behind, rules_start, rules_step, TellsScan}
 use Rattle.dali_record.proofs.Ends.{by_push}
 use Rattle.dali_record.proofs.Pushes.{txn_state_push}
 use Rattle.dali_record.proofs.EpochRules.{rules_before, unless_failed}
 use Rattle.dali_counts.proofs.Tallies.{tallies, next_some, tells_step}
-use Rattle.dali_counts.proofs.SmallLogs.{lefts, lefts_step, left_of, more, gone, sum_below, sum_none, sum_at, sum_most, none_sum, was_given, never_back, never_solo, open_audits, opens_one, ends_audit, uses, HasRoomFor, room_behind, next_within, bound}
+use Rattle.dali_counts.proofs.SmallLogs.{lefts, lefts_step, left_of, more, sum_below, sum_none, sum_at, sum_most, none_sum, was_given, never_back, never_solo, open_audits, opens_one, ends_audit, uses, HasRoomFor, room_behind, next_within, bound}
 use Rattle.dali_counts.proofs.ShortLogs.{block_most, open_of, one_open, none_open, HasSizes, Grows, grows, numbers_if, sizes_most, get_old, take_old, take_new}
-use Rattle.dali_counts.specs.Counts.{AreSpelled, IsLight, next_with}
+use Rattle.dali_counts.specs.Counts.{AreSpelled, IsLight}
 
 -- more than the bytes that may still come without room
 abbrev debt : Sizes → List Record → Rules → ℕ → ℕ

@@ -19,8 +19,8 @@ use Rattle.dali_record.specs.declared.records.Record.TheVariants.{Forward, Done,
 use Rattle.dali_record.specs.Blocks.{IsSoundOn}
 use Rattle.dali_record.specs.Operations.{undo_op, effect}
 use Rattle.dali_record.specs.Calls.{Progress, Fresh, Walking, Nowhere, Somewhere, Storing, Adding, Removing, Finished, follow}
-use Rattle.dali_record.specs.Log.{Touch, touch_of, touch_at, calls_of, last_of}
-use Rattle.dali_record.specs.Legal.{Working, TxnState, Active, Onward, freeing_op, is_of, is_answer, Committed as IsOver}
+use Rattle.dali_record.specs.Log.{Touch, touch_of, calls_of, last_of}
+use Rattle.dali_record.specs.Legal.{Working, TxnState, Active, Onward, freeing_op, is_answer, Committed as IsOver}
 use Rattle.dali_record.specs.Settled.{redo_all, words_in}
 use Rattle.dali_record.proofs.Ends.{by_push, get_push_cases}
 use Rattle.dali_record.proofs.Pushes.{touch_push_cases}

@@ -10,7 +10,7 @@ use Rattle.dali_record.specs.declared.records.Record.TheVariants.{Format, Begin,
 use Rattle.dali_record.specs.Log.{undos_of, undo_step, committed, begun, ended, begin_by, ended_by}
 use Rattle.dali_record.specs.Epochs.{cut, last_epoch}
 use Rattle.dali_record.specs.Damage.{has, marks}
-use Rattle.dali_record.specs.Legal.{Working, TxnState, Unbegun, Active, Over, Committed as Ending, txn_state, allowed, IsLegalFor}
+use Rattle.dali_record.specs.Legal.{TxnState, Unbegun, Active, Over, Committed as Ending, txn_state, allowed}
 use Rattle.dali_record.proofs.Ends.{by_push}
 use Rattle.dali_record.proofs.Pushes.{undos_of_push}
 use Rattle.dali_kept.specs.Kept.{kept_state, kept_step, kept_next, AreKept}

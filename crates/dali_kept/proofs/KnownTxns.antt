@@ -15,7 +15,7 @@ use Rattle.dali_record.specs.Operations.{undo_op}
 use Rattle.dali_record.specs.Log.{undos_of, undo_step, committed, calls_of, last_of, drop_last}
 use Rattle.dali_record.specs.Damage.{has}
 use Rattle.dali_record.specs.Calls.{Fresh}
-use Rattle.dali_record.specs.Legal.{Working, Way, Onward, TakingBack, Unwinding, TxnState, Unbegun, Active, Over, allowed, forward, back, is_of, is_answer, is_level, is_none_left, dead_of, way_back, Committed as IsOver}
+use Rattle.dali_record.specs.Legal.{Working, Onward, TakingBack, Unwinding, TxnState, Unbegun, Active, Over, allowed, forward, back, is_of, is_answer, is_level, is_none_left, dead_of, way_back, Committed as IsOver}
 use Rattle.dali_record.proofs.Ends.{get_push_cases}
 use Rattle.dali_record.proofs.Pushes.{undos_of_push, committed_push, calls_of_push}
 use Rattle.dali_record.proofs.Moves.{none_left}

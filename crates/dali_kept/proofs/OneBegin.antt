@@ -15,7 +15,7 @@ use Rattle.dali_record.specs.declared.records.Record.{Record}
 use Rattle.dali_record.specs.declared.records.Record.TheVariants.{Format, Begin, Forward, Done, Commit, Ended, Solo, AuditBegin, AuditClean, AuditFail, Restarted, Back}
 use Rattle.dali_record.specs.Log.{undos_of, undo_step, begun, begin_by, last_of}
 use Rattle.dali_record.specs.Calls.{Fresh}
-use Rattle.dali_record.specs.Legal.{Working, Onward, TxnState, Unbegun, Active, Over, concerns, allowed, is_level, is_answer, is_none_left, dead_of, forward, Committed as IsOver}
+use Rattle.dali_record.specs.Legal.{Working, Onward, TxnState, Unbegun, Active, Over, concerns, allowed, is_level, is_answer, is_none_left, dead_of, Committed as IsOver}
 use Rattle.dali_record.proofs.Ends.{by_push}
 use Rattle.dali_record.proofs.Pushes.{undos_of_push}
 use Rattle.dali_kept.specs.Kept.{KeepsCalls, kept_state, kept_step, kept_next, freed_later}

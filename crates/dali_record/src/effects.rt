@@ -251,8 +251,8 @@ fn revive_entry(entry: u8, words: &[u64; 64]) -> (Effect, Outcome, Option<Undo>)
 
 /// What the operation does to the words of its region, what it finds there, and what takes it back.
 ///
-/// It depends on the words that it reads alone. The operation names a cell from 1 to 7 or an entry from 0 to 20, as each
-/// does that a plan makes or a log tells. Takes no memory.
+/// It depends on the words that it reads alone. A cell that the operation names is from 1 to 7, and an entry from 0 to
+/// 20, as in each that a plan makes or a log tells. Takes no memory.
 #[tactic(auto, using(crate::proofs::ByReads::effect_by_reads))]
 pub fn effect(op: &Op, key: u64, words: &[u64; 64]) -> (Effect, Outcome, Option<Undo>)
     requires { IsOperation op.now }
@@ -298,7 +298,7 @@ impl Block {
     }
 
     /// Makes this the block of an operation on the words of a region, as they stand before it. It is made where it lies, since
-    /// it is large. The operation names a cell from 1 to 7 or an entry from 0 to 20. Takes no memory.
+    /// it is large. A cell that the operation names is from 1 to 7, and an entry from 0 to 20. Takes no memory.
     pub fn make(&mut self, op: Op, key: u64, region: u32, words: &[u64; 64])
         requires { IsOperation op }
         ensures made { self.new ≡ made words.now key region op }

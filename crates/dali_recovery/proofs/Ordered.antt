@@ -15,16 +15,15 @@ use Rattle.dali_resume.specs.Tests.{Known, allows, is_running, known_next, next_
 use Rattle.dali_taint.specs.declared.taint.Judgement.{Judgement}
 use Rattle.dali_taint.specs.declared.taint.Judgement.TheVariants.{Keep, Drop}
 use Rattle.dali_redo.specs.Redoing.{Redoing, Knows, breaks, is_tested, status_at, told}
-use Rattle.dali_redo.specs.Steps.{Applies, Skips}
-use Rattle.dali_redo.specs.declared.error.RedoError.{RedoError}
+use Rattle.dali_redo.specs.Steps.{Applies}
 use Rattle.dali_redo.specs.declared.error.RedoError.TheVariants.{Misfit as RedoMisfit}
 use Rattle.dali_history.proofs.Rising.{Up, keys_up, up_filter}
 use Rattle.dali_redo.proofs.Told.{tests_rules}
-use Rattle.dali_recovery.specs.Standing.{Ascend, IsOrdered, IsOrderedOut, IsRecovered, JudgedBy, KeepsOrder, MakesOrdered, Passes, Reopens, passed}
+use Rattle.dali_recovery.specs.Standing.{Ascend, IsOrdered, IsOrderedOut, IsRecovered, JudgedBy, KeepsOrder, MakesOrdered, Passes, Reopens}
 use Rattle.dali_recovery.specs.declared.scan.Scan.{Scan}
 use Rattle.dali_recovery.specs.declared.recovery.Recovery.{Recovery}
 use Rattle.dali_recovery.specs.declared.recovery.Recovered.{Recovered}
-use Rattle.dali_recovery.proofs.Records.{no_error, number_low}
+use Rattle.dali_recovery.proofs.Records.{number_low}
 
 -- ---- who is rolled back
 up_ascends : (xs : List ℕ) → Up xs → ascends xs ≡ true

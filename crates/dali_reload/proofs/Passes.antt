@@ -10,7 +10,7 @@ use Rattle.dali_lists.proofs.Members.{contains_none, contains_first}
 use Rattle.dali_lists.proofs.Tests.{left_true, right_true}
 use Rattle.dali_geometry.specs.Sizes.{Sizes}
 use Rattle.dali_record.specs.declared.records.Record.{Record}
-use Rattle.dali_record.specs.declared.records.Record.TheVariants.{Format, Begin, Forward, Done, Commit, Ended, Solo, AuditBegin, AuditClean, AuditFail, Restarted, Back}
+use Rattle.dali_record.specs.declared.records.Record.TheVariants.{Format, Restarted}
 use Rattle.dali_record.specs.Damage.{Damage}
 use Rattle.dali_record.specs.Epochs.{separates}
 use Rattle.dali_record.specs.Files.{Files, is_restarted}

@@ -6,7 +6,7 @@ use Rattle.std.proofs.lemmas.List.{append-nil, take_more, length-take-le, drop-a
 use Rattle.std.proofs.lemmas.Grind.{flat_map-append}
 use Rattle.dali_record.specs.declared.records.Record.{Record}
 use Rattle.dali_record.specs.declared.records.Record.TheVariants.{Format, Restarted}
-use Rattle.dali_record.specs.Epochs.{Epoch, Cut, cut, cut_step, epochs}
+use Rattle.dali_record.specs.Epochs.{Cut, cut, cut_step}
 use Rattle.dali_record.proofs.Pushes.{cut_push, separates}
 use Rattle.dali_history.proofs.OwnEpoch.{cut_step_more}
 use Rattle.dali_replay.specs.Marking.{deleted_of}

@@ -11,9 +11,9 @@ use Rattle.dali_record.specs.declared.records.Record.{Record}
 use Rattle.dali_record.specs.Log.{commit_by, committed}
 use Rattle.dali_record.specs.Epochs.{Epoch, epochs, clean_step, failing_step}
 use Rattle.dali_record.specs.Damage.{Damage, damage_of, has, marks, has_corrupt}
-use Rattle.dali_record.proofs.Chains.{recs, marks-records}
+use Rattle.dali_record.proofs.Chains.{marks-records}
 use Rattle.dali_record.proofs.Survivors.{has_filter}
-use Rattle.dali_history.specs.Serial.{is_deleted_in, is_deleted}
+use Rattle.dali_history.specs.Serial.{is_deleted_in}
 use Rattle.dali_history.specs.Acknowledged.{IsDeletedByChain}
 use Rattle.dali_history.proofs.Members.{Contains-from_has, has_from_Contains}
 use Rattle.dali_history.proofs.Chained.{is_deleted_is_chain}

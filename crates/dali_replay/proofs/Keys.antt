@@ -7,7 +7,7 @@ use Rattle.dali_record.specs.declared.operations.Pending.{Pending}
 use Rattle.dali_record.specs.declared.operations.Undo.{Undo}
 use Rattle.dali_record.specs.declared.records.Record.{Record}
 use Rattle.dali_record.specs.declared.records.Record.TheVariants.{Format, Forward, Back}
-use Rattle.dali_record.specs.Log.{undo_added, undo_step, undos_of, drop_last}
+use Rattle.dali_record.specs.Log.{undo_added, undo_step, drop_last}
 use Rattle.dali_record.proofs.Ends.{drop_last_push}
 use Rattle.dali_replay.specs.Marking.{key_added, key_step, undo_keys}
 

@@ -3,11 +3,10 @@ use Rattle.std.proofs.Common.{◌≡◌, ℕ, suc, ◌+◌, ◌<◌, Bool, true,
 use Rattle.std.specs.Prelude.{◌&&◌, ◌||◌, ◌==◌, not, bit_and}
 use Rattle.std.specs.List.{list_any}
 use Rattle.std.proofs.lemmas.List.{map-append, length_push, take_more}
-use Rattle.dali_record.specs.declared.operations.Block.{Block}
 use Rattle.dali_record.specs.declared.records.Record.{Record}
 use Rattle.dali_record.specs.Blocks.{changes_item}
 use Rattle.dali_record.specs.Log.{Touch, touch_of}
-use Rattle.dali_record.specs.Damage.{Damage, has, any_touch, writes_for, changes_for, is_linked_from, is_linked, is_first, mark_of, marks, is_corrupt_of, has_corrupt, any_txn}
+use Rattle.dali_record.specs.Damage.{Damage, has, any_touch, writes_for, changes_for, is_linked_from, is_linked, is_first, mark_of, marks, has_corrupt, any_txn}
 use Rattle.dali_record.proofs.Pushes.{marks_push}
 use Rattle.dali_record.proofs.Chains.{recs, marks-records}
 use Rattle.dali_replay.specs.Marking.{txn_in, touches, reaches, undo_keys, links_from, linked_after, block_is_first, mark_by, marks_only, corrupted}

@@ -21,7 +21,7 @@ use Rattle.dali_history.proofs.Members.{Contains-from_has, has_from_Contains}
 use Rattle.dali_history.proofs.Chained.{is_deleted_is_chain}
 use Rattle.dali_replay.specs.Walking.{Walk, start, then_walk, stepped, call_made, calls_made, serial_made}
 use Rattle.dali_replay.specs.Following.{value_at, Comes, Follows, survive_among}
-use Rattle.dali_replay.specs.Replayed.{Replayed, IsReplay}
+use Rattle.dali_replay.specs.Replayed.{IsReplay}
 use Rattle.dali_replay.proofs.Follows.{calls_then}
 
 pub find_lookup : (es : List (ℕ × List ℕ)) (q : ℕ) → find nat_cmp q es ≡ lookup (is_at (nat_cmp q)) es

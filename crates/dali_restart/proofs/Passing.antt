@@ -14,8 +14,6 @@ use Rattle.dali_store.specs.declared.store.FileName.{FileName}
 use Rattle.dali_store.specs.declared.store.FileName.TheVariants.{Log}
 use Rattle.dali_store.specs.Store.{Files as Disk, Only}
 use Rattle.dali_batch.specs.Stream.{Reading, IsReadFrom}
-use Rattle.dali_traces.specs.Disks.{head_of}
-use Rattle.dali_image.specs.Laws.{header_of, table_of}
 use Rattle.dali_image.specs.declared.header.Header.{Header}
 use Rattle.dali_resume.specs.Onward.{going_at}
 use Rattle.dali_recovery.specs.Standing.{Stands, Starts}
@@ -23,7 +21,7 @@ use Rattle.dali_recovery.specs.declared.recovery.Damage.{Damage as Told}
 use Rattle.dali_recovery.specs.declared.recovery.Recovery.{Recovery}
 use Rattle.dali_recovery.proofs.Whole.{begins_behind}
 use Rattle.dali_reload.specs.Reading.{IsAtImage, IsBadAt, Reloads}
-use Rattle.dali_reload.specs.Scanning.{AreFound, Finds, told_of}
+use Rattle.dali_reload.specs.Scanning.{Finds, told_of}
 use Rattle.dali_reload.specs.declared.reading.Reloaded.{Reloaded}
 use Rattle.dali_reload.specs.declared.error.ReloadError.{ReloadError}
 use Rattle.dali_reload.specs.declared.error.ReloadError.TheVariants as reloads
@@ -31,7 +29,7 @@ use Rattle.dali_reload.proofs.Passes.{finds_later}
 use Rattle.dali_restart.specs.declared.error.RestartError.TheVariants as errors
 use Rattle.dali_restart.specs.declared.restarting.Base.{Base}
 use Rattle.dali_restart.specs.Causes.{reload_error}
-use Rattle.dali_restart.specs.Deciding.{AreKnown, EndsWith, FindsNext, IsInRoom, IsBase, IsBegunIn, IsReadIn}
+use Rattle.dali_restart.specs.Deciding.{AreKnown, FindsNext, IsInRoom, IsBase, IsBegunIn, IsReadIn}
 use Rattle.dali_restart.specs.Opening.{IsInRange, IsOpened}
 use Rattle.dali_restart.specs.Restarting.{BeginsAt, IsBadAnywhere}
 use Rattle.dali_restart.proofs.Once.{opens_once}

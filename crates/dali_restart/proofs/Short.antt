@@ -7,20 +7,17 @@ use Rattle.std.proofs.lemmas.List.Elements.{filter_map-append}
 use Rattle.std.proofs.lemmas.Bool.{and_parts, leb-true}
 use Rattle.dali_lists.proofs.Lists.{length_filter}
 use Rattle.dali_lists.proofs.Members.{all_push}
-use Rattle.dali_geometry.specs.Sizes.{Sizes}
 use Rattle.dali_record.specs.declared.records.Record.{Record}
-use Rattle.dali_record.specs.declared.records.Record.TheVariants.{Format, Begin, Forward, Done, Commit, Ended, Solo, AuditBegin, AuditClean, AuditFail, Restarted, Back}
+use Rattle.dali_record.specs.declared.records.Record.TheVariants.{Format, Restarted}
 use Rattle.dali_record.specs.Damage.{damage_of, deleted_list, has, has_corrupt, marks, rolled_list}
 use Rattle.dali_record.specs.Epochs.{Cut, Epoch, cut, cut_step, recovered_epoch, recovered_or}
 use Rattle.dali_record.specs.Files.{Files}
-use Rattle.dali_record.specs.Legal.{Rules, has_room, kept_if, passes, room, rules_behind, rules_first, rules_next, rules_state, runs, sizes_of}
-use Rattle.dali_record.specs.Log.{begin_by, begun, committed, ended, last_of}
-use Rattle.dali_record.specs.Spelling.{record_length}
+use Rattle.dali_record.specs.Legal.{rules_state, sizes_of}
+use Rattle.dali_record.specs.Log.{begun, committed, ended, last_of}
 use Rattle.dali_record.proofs.Ends.{by_push}
-use Rattle.dali_record.proofs.Pushes.{cut_push, rules_state_push}
+use Rattle.dali_record.proofs.Pushes.{cut_push}
 use Rattle.dali_history.proofs.SpelledRestart.{begun_push, few_begun, more_begun, weighs_all}
 use Rattle.dali_system.specs.Run.{log_in}
-use Rattle.dali_again.specs.Found.{FindsIt}
 use Rattle.dali_restart.specs.Restarting.{told_list}
 use Rattle.dali_restart.specs.Short.{IsShortRestart}
 

@@ -2,7 +2,6 @@
 use Rattle.std.proofs.Common.{◌≡◌, ℕ, zero, suc, ◌+◌, ◌<◌, ◌≤◌, Bool, true, false, List, [], ◌∷◌, length, map, drop, Some, refl, ap, sym, subst, arith}
 use Rattle.std.specs.Prelude.{slice_get}
 use Rattle.dali_counts.proofs.Lists.{some_same}
-use Rattle.dali_transcripts.specs.Words.{Act}
 use Rattle.dali_transcripts.specs.Transcripts.{Told}
 use Rattle.dali_transcripts.specs.Rounds.{IsPlaced, AreBlocks}
 use Rattle.dali_clients.specs.declared.command.Block.{Block}

@@ -8,12 +8,10 @@ use Rattle.dali_record.specs.declared.records.Record.{Record}
 use Rattle.dali_record.specs.declared.records.Record.TheVariants as records
 use Rattle.dali_record.specs.Epochs.{last_epoch}
 use Rattle.dali_record.specs.Files.{Files}
-use Rattle.dali_record.specs.Legal.{IsLegal, IsLegalFor, sizes_of}
+use Rattle.dali_record.specs.Legal.{IsLegal, IsLegalFor}
 use Rattle.dali_record.specs.Spelling.{CanBeSpelled}
 use Rattle.dali_geometry.specs.Sizes.{Sizes}
-use Rattle.dali_region.specs.State.{RegionState}
 use Rattle.dali_history.specs.Acknowledged.{IsDeletedByChain}
-use Rattle.dali_history.specs.History.{IsHistory}
 use Rattle.dali_headline.proofs.Undamaged.{undamaged_deleted}
 use Rattle.dali_store.specs.Store.{Files as Disk}
 use Rattle.dali_store.specs.declared.store.Store.{Ghosts}
@@ -21,20 +19,16 @@ use Rattle.dali_batch.specs.Log.{AreSpelled, LogOf, records_in}
 use Rattle.dali_batch.proofs.Unique.{same_records, one_log, log_is_formatted}
 use Rattle.dali_system.specs.State.{SystemState, log_after}
 use Rattle.dali_system.specs.Run.{RunsOn, log_in}
-use Rattle.dali_crash.specs.Checkpoints.{Point}
-use Rattle.dali_crash.specs.CrashLogs.{IsUnpoked}
-use Rattle.dali_crash.specs.Traces.{Start, bases_of}
+use Rattle.dali_crash.specs.Traces.{bases_of}
 use Rattle.dali_during.specs.Reported.{named_deleted, reported}
 use Rattle.dali_during.proofs.Reported.{reports_all_deleted}
 use Rattle.dali_during.proofs.Runs.{sizes_in_run}
 use Rattle.dali_traces.specs.Disks.{AllSpell}
 use Rattle.dali_traces.specs.Bridges.{TracedTo}
 use Rattle.dali_traces.proofs.Bridges.{runs_at}
-use Rattle.dali_vault.specs.Vaulted.{Vaulted}
-use Rattle.dali_round.specs.Leads.{BeginsAt}
 use Rattle.dali_listing.specs.Listing.{in_memory}
-use Rattle.dali_verify.specs.Verified.{Spell, IsInFile, IsWholeLog, IsVerified, deleted_in, told_deleted}
-use Rattle.dali_run.specs.Shown.{IsServing, HoldsExpected, VerifiesAlways}
+use Rattle.dali_verify.specs.Verified.{IsInFile, IsWholeLog, IsVerified, deleted_in, told_deleted}
+use Rattle.dali_run.specs.Shown.{HoldsExpected, VerifiesAlways}
 use Rattle.dali_run.proofs.Shown.{none_failed, shows_expected}
 
 spelled_in : (n : ℕ) (L M : List Record) → ((i : ℕ) (r : Record) → slice_get (M ++ L) i ≡ Some r → CanBeSpelled r) → AreSpelled (drop n L)

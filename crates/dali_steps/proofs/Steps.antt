@@ -35,7 +35,7 @@ use Rattle.dali_traces.specs.NewFiles.{ReadsCopies, IsUnderWay, IsWholeFile}
 use Rattle.dali_traces.proofs.Bridges.{flush_goes_on, fault_goes_on, quiet_goes_on, write_goes_on, turn_goes_on, turn_fault_goes_on, flush_is_right, are_right, store_starts, same_image, write_is_right, turn_is_right, other_files}
 use Rattle.dali_traces.proofs.Images.{quiet_is_read, held_goes_on, sync_holds}
 use Rattle.dali_traces.proofs.NewFiles.{start_reads, quiet_reads, header_reads, copy_reads, table_reads, copy_continues, header_begins, table_ends, quiet_continues, skip_continues, has_places}
-use Rattle.dali_vault.specs.Vaulted.{Vaulted, grown, moved, with_store}
+use Rattle.dali_vault.specs.Vaulted.{Vaulted, moved, with_store}
 use Rattle.dali_vault.specs.Vaulted as vaulted
 use Rattle.dali_vault.proofs.Serving.{still, both}
 use Rattle.dali_steps.specs.At.{IsVault, IsAt}

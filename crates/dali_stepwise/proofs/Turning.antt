@@ -4,8 +4,8 @@ use Rattle.dali_record.specs.declared.operations.Op.{Op}
 use Rattle.dali_core.specs.declared.want.Want.TheVariants.{Region, Nothing}
 use Rattle.dali_calls.specs.declared.plan.Phase.{Phase}
 use Rattle.dali_calls.specs.declared.plan.Phase.TheVariants.{Refused}
-use Rattle.dali_calls.specs.Steps.{is_fresh, answer_of}
-use Rattle.dali_calls.specs.Plans.{is_answered, is_back, is_back_in, plan_next, want_in}
+use Rattle.dali_calls.specs.Steps.{answer_of}
+use Rattle.dali_calls.specs.Plans.{is_back, is_back_in, plan_next, want_in}
 use Rattle.dali_calls.proofs.Wholes.{back_next}
 use Rattle.dali_calls.proofs.Following.{nothing_left, refused_rests}
 use Rattle.dali_single.proofs.Calling.{plan_turns as turned_follows}

@@ -1,7 +1,6 @@
 use Rattle.std.proofs.Common.{[], List, subst}
 use Rattle.dali_region.specs.State.{RegionState}
 use Rattle.dali_ends.specs.Guards.{MayFreeOn}
-use Rattle.dali_calls.proofs.Flags.{flags_same}
 use Rattle.dali_ends.specs.Left.{none_of}
 use Rattle.dali_ends.proofs.Standing.{comes_none, comes_left}
 use Rattle.dali_ends.proofs.Freeing.{removal_frees}

@@ -1,6 +1,5 @@
 use Rattle.std.proofs.Common.{◌≡◌, ◌∙◌, ◌++◌, ap, length, take, filter, arith, take_all}
 use Rattle.dali_record.specs.Log.{committed}
-use Rattle.dali_record.specs.Damage.{damage_of}
 use Rattle.dali_replay.specs.Seen.{damage_in}
 use Rattle.dali_replay.specs.Marking.{corrupted}
 use Rattle.dali_replay.proofs.Deletes.{marks_fit, keep_more, damage_is, deleted_is}

@@ -6,7 +6,7 @@ use Rattle.dali_recovery.specs.Laws.{outcome_of}
 use Rattle.dali_region.specs.State.{loaded}
 use Rattle.dali_restart.specs.declared.error.RestartError.TheVariants as errors
 use Rattle.dali_restart.specs.Restarting.{IsLeft}
-use Rattle.dali_restart.proofs.Handing.{begins_over, err_same, gives_in, is_fresh, left_reading, left_settling, none_read, reads_in, reads_out, rests_over}
+use Rattle.dali_restart.proofs.Handing.{begins_over, err_same, gives_in, left_reading, left_settling, none_read, reads_in, reads_out, rests_over}
 use Rattle.dali_restart.proofs.Idle.{rests_idle}
 use Rattle.dali_restart.proofs.restarting.restart.Goals as goal
 
