@@ -1,6 +1,6 @@
 //! The calls of a vault that write, with what they say as the laws of `dali_steps` ask for it, at each moment of the call
 //! too (`any_moment`), and with how many calls of the store each makes. Each is the vault's call and nothing else.
-ghost use Rattle.std.specs.Prelude.{◌≡◌, ◌==◌, ◌≤◌, ◌<◌, ◌+◌, ◌^◌, true, false, if◌then◌else◌, Err, OnOk, OnErr, IfSome, IsErrOf, length};
+ghost use Rattle.std.specs.Prelude.{◌≡◌, ◌==◌, ◌≤◌, ◌<◌, ◌+◌, ◌^◌, true, false, if◌then◌else◌, Err, OnOk, OnErr, IfSome, IfOk, IsErrOf, length};
 ghost use Rattle.dali_store.specs.declared.store.FileName.TheVariants.{Anchor, Log};
 ghost use Rattle.dali_store.specs.Calls.{fewer, one_less};
 ghost use Rattle.dali_store.specs.Store.{file_of, LeavesOnly, TornTold};
@@ -15,10 +15,12 @@ use dali_region::Side;
 use dali_store::Store;
 use dali_vault::{Vault, VaultError};
 
-/// Adds a frame to the log, as `Vault::flush` does: by four calls of the store, and by none where it is empty.
+/// Adds a frame to the log, as `Vault::flush` does: by four calls of the store, and by none where it is empty. It answers where
+/// the log then ends.
 pub fn flush<V: Store>(vault: &mut Vault<V>, frame: &Frame) -> Result<u64, VaultError>
     requires small { vault.old.end < 2 ^ 62 }
     ensures stopped { vault.old.stopped ≡ true → (result ≡ Err Stopped) × (vault.new ≡ vault.old) }
+    ensures place { IfOk result (λ next. next ≡ vault.new.end) }
     ensures ok { OnOk result (HasFlushed V.told V.may_leave V.faults vault.old frame.now vault.new) }
     ensures fault { IsErrOf result Fault → FlushHasFailed V.told V.may_leave V.faults vault.old frame.now vault.new }
     ensures torn { vault.old.stopped ≡ false → TornTold Log vault.old.end (length frame.now.body + 6) (V.told vault.old.store) (V.told vault.new.store) }

@@ -1,5 +1,5 @@
 //! What makes the records of a core durable.
-ghost use Rattle.std.specs.Prelude.{◌≡◌, ◌<◌, ◌≤◌, ◌+◌, ◌^◌, ℕ, true, false, is_some, Err, OnOk, OnErr, IsErrOf};
+ghost use Rattle.std.specs.Prelude.{◌≡◌, ◌<◌, ◌≤◌, ◌+◌, ◌^◌, ℕ, true, false, is_some, Err, OnOk, OnErr, IfOk, IsErrOf};
 ghost use Rattle.dali_store.specs.declared.store.FileName.TheVariants.{Log};
 ghost use Rattle.dali_store.specs.Calls.{fewer};
 ghost use Rattle.dali_store.specs.Faults.{Rose};
@@ -21,7 +21,7 @@ use std::alloc::Global;
 /// Takes the records that aren't taken yet, and flushes them: what `flush` does of a system and a running vault that stand
 /// apart. `Fault` only where the store's count of faults rose; then the vault stops, and the caller stops the system. Where no
 /// memory is left for the next frame, they are flushed from where they stand. It makes four calls of the store, and none
-/// where no record waits.
+/// where no record waits. It answers where the log then ends.
 pub fn write_out<V: Store>(
     system: &mut System,
     vault: &mut Vault<V>,
@@ -30,6 +30,7 @@ pub fn write_out<V: Store>(
     requires small { vault.old.end < 2 ^ 62 }
     requires runs { vault.old.stopped ≡ false }
     ensures taken { system.new ≡ record system.old { state = taken system.old.state } }
+    ensures place { IfOk result (λ next. next ≡ vault.new.end) }
     ensures ok { OnOk result (FlushesFrame V.told V.may_leave V.faults system.old.state vault.old vault.new) }
     ensures fault { OnErr result ((result ≡ Err Fault) × FailsFrame V.told V.may_leave V.faults system.old.state vault.old vault.new) }
     ensures torn { (n : ℕ) × TornTold Log vault.old.end n (V.told vault.old.store) (V.told vault.new.store) }

@@ -21,3 +21,9 @@ returns-in-Ok-clause-files g c = torn_length Log c.args.vault.now.end _ (g.V.Sto
 
 pub returns-in-Err-clause-files : goal.returns-in-Err-clause-files
 returns-in-Err-clause-files g c = torn_length Log c.args.vault.now.end _ (g.V.Store.told c.args.vault.now.store) (g.V.Store.told c.flush-flushed.new.vault.store) (c.flush-flushed.ensures.torn c.requires.runs)
+
+pub returns-in-Ok-clause-place : goal.returns-in-Ok-clause-place
+returns-in-Ok-clause-place g c = c.flush.ensures.place
+
+pub returns-in-Err-clause-place : goal.returns-in-Err-clause-place
+returns-in-Err-clause-place g c = c.flush-flushed.ensures.place
