@@ -185,30 +185,6 @@ fn take_regions(entry: &mut Record, others: Regions) -> Regions
     }
 }
 
-// Logs that an audit found these regions damaged. Answers them again.
-fn log_failed(
-    system: &mut System,
-    begin: u64,
-    failing: Vec<u32>,
-    spare: Regions,
-) -> Result<Vec<u32>, SystemError>
-    requires { CanBeSpelled (AuditFail begin failing.items) }
-    ensures same { IfOk result (λ regions. regions.items ≡ failing.items) }
-    ensures ok { OnOk result (system.new ≡ record system.old { state = audit_ended system.old.state begin failing.items }) }
-    ensures err { OnErr result (system.new ≡ system.old) }
-    ensures runs { OnOk result (system.old.state.stop ≡ None) }
-    ensures refused { IfSome (stop_refusal system.old.state) (λ e. result ≡ Err e) }
-    ensures memory { stop_refusal system.old.state ≡ None → IfErr result (λ e. e ≡ Memory) }
-{
-    let regions = Regions::new(failing);
-    let mut entry = Record::AuditFail { begin, regions };
-    match system.note(&entry) {
-        Ok(_) => {}
-        Err(error) => return Err(error),
-    }
-    Ok(take_regions(&mut entry, spare).into_vec())
-}
-
 // Logs the end of an audit that found these regions. Answers them again.
 fn log_end(
     system: &mut System,
@@ -224,19 +200,25 @@ fn log_end(
     ensures refused { IfSome (stop_refusal system.old.state) (λ e. result ≡ Err e) }
     ensures memory { stop_refusal system.old.state ≡ None → IfErr result (λ e. e ≡ Memory) }
 {
-    if !failing.is_empty() {
-        return log_failed(system, begin, failing, spare);
+    if failing.is_empty() {
+        return match log_clean(system, begin) {
+            Ok(_) => Ok(failing),
+            Err(error) => Err(error),
+        };
     }
-    match log_clean(system, begin) {
-        Ok(_) => Ok(failing),
-        Err(error) => Err(error),
+    let regions = Regions::new(failing);
+    let mut entry = Record::AuditFail { begin, regions };
+    match system.note(&entry) {
+        Ok(_) => {}
+        Err(error) => return Err(error),
     }
+    Ok(take_regions(&mut entry, spare).into_vec())
 }
 
 impl Audit {
     /// Logs that an audit begins, of all regions of the system. It takes memory for all passes, and for its record.
     /// Refused as any begin of an audit: where the system has stopped, where the log is full by the limit of audits, and
-    /// for want of memory; then nothing is logged.
+    /// for want of memory; then nothing is logged. The numbers of records and of regions fit their fields.
     pub fn begin(alloc: Global, system: &mut System) -> Result<Self, SystemError>
         ensures audit { IfOk result (λ audit. audit ≡ record { begin = system.old.state.records; findings = replicate (regions_of system.old.state.sizes) Waiting }) }
         ensures ok { OnOk result (system.new ≡ record system.old { state = audit_begun system.old.state }) }
@@ -244,17 +226,20 @@ impl Audit {
         ensures refused { IfSome (audit_refusal system.old.state AuditBegin) (λ e. result ≡ Err e) }
         ensures room { OnOk result (audit_refusal system.old.state AuditBegin ≡ None) }
         ensures memory { audit_refusal system.old.state AuditBegin ≡ None → IfErr result (λ e. e ≡ Memory) }
+        ensures number { system.old.state.records < 2 ^ 64 }
+        ensures count { regions_of system.old.state.sizes < 2 ^ 32 }
     {
+        let begin = system.records();
+        let count = system.geometry().regions();
         if let Some(error) = system.audit_refusal() {
             return Err(error);
         }
-        let count = system.geometry().regions();
         let Ok((findings, failing)) = make_room(alloc, count) else {
             return Err(SystemError::OutOfMemory);
         };
-        let receipt = system.note(&Record::AuditBegin)?;
+        system.note(&Record::AuditBegin)?;
         Ok(Audit {
-            begin: receipt.number,
+            begin,
             findings,
             failing,
             spare: Regions::new(Vec::new(alloc)),

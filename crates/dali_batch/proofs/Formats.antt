@@ -1,10 +1,11 @@
 -- What a crash leaves in each step while a log is formatted.
 use Rattle.std.proofs.Common.{◌≡◌, ◌⊎◌, inl, inr, ℕ, zero, suc, ◌+◌, ◌≤◌, ◌<◌, List, [], ◌∷◌, ◌++◌, length, take, drop, refl, sym, ◌∙◌, subst, arith, Option, Some, None, IfSome}
+use Rattle.std.specs.Prelude.{is_some}
 use Rattle.dali_store.specs.Store.{Files, NoLonger, Torn, TornIn, HoldsIn, Follows, SameBut, Elapses, LeavesOnly}
 use Rattle.dali_store.specs.declared.store.FileName.TheVariants.{Log, ImageA, ImageB, Anchor}
-use Rattle.dali_store.proofs.Moments.{started, goes_on}
+use Rattle.dali_store.proofs.Moments.{moved, started, goes_on}
 use Rattle.dali_batch.specs.Batch.{IsClosedAt, IsUnformatted, Ends}
-use Rattle.dali_batch.specs.Appending.{Adds, SomeAdded, AllAdded}
+use Rattle.dali_batch.specs.Appending.{next_place, Adds, SomeAdded, AllAdded}
 use Rattle.dali_batch.specs.Formatting.{SameImages, CloseLeaves, AreClosed, HasFirst, FormatLeaves, IsFormattedBy}
 use Rattle.dali_batch.proofs.Torn.{torn_same, torn_then}
 
@@ -134,3 +135,8 @@ module _ {D : Type 0} (moment : D → ℕ) (left_since : D → ℕ → Files →
     -- the anchor is synced
     pub anchor_synced : (s3 : D) → ((c : Files) → may_leave s3 c → may_leave s2 c) → Elapses (moment s2) (moment s3) (left_since s2) (left_since s3) (may_leave s3) → LeavesOnly moment left_since s0 s3 (CloseLeaves (may_leave s0))
     anchor_synced s3 kept time3 = goes_on moment left_since s0 s2 s3 (CloseLeaves (may_leave s0)) (may_leave s3) anchor_run time3 (λ c left. anchor_crash c (kept c left))
+
+-- where a formatted log ends, of a store that tells its contents
+pub log_formatted : (old new : Files → Type 0) (body : List ℕ) (end : ℕ) (t0 t1 : Option Files) → is_some t1 ≡ is_some t0 → end ≡ next_place 0 (body ∷ []) → IfSome t0 (λ _. (c : Files) → new c → IsFormattedBy old body c) → IfSome t1 (λ _. (c : Files) → new c → IsClosedAt end c.log)
+log_formatted old new body end t0 t1 tells place all =
+    moved {P = (c : Files) → new c → IsFormattedBy old body c} ((c : Files) → new c → IsClosedAt end c.log) t0 t1 tells all (λ each c left. subst (λ (e : ℕ). IsClosedAt e c.log) (sym place) (each c left).log.closed)

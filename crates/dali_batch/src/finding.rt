@@ -1,10 +1,10 @@
 //! What stands at a place of the log.
 ghost use Rattle.std.specs.Prelude.{◌≡◌, ◌≤◌, ◌<◌, ◌+◌, ℕ, true, false, length, take, drop, IfOk, OnOk, OnErr, IfErr, IsErrOf, IfSome, IsNone};
-ghost use Rattle.dali_store.specs.Calls.{one_less, PassesFewer, MakesAtMost};
+ghost use Rattle.dali_store.specs.Calls.{one_less, MakesAtMost};
 ghost use Rattle.dali_store.specs.Faults.{Rose};
 ghost use Rattle.dali_bytes.specs.Fields.{number32};
 ghost use Rattle.dali_batch.specs.Finding.{IsBad, IsFound, IsFurther};
-ghost use Rattle.dali_batch.specs.Reads.{OnlyReads};
+ghost use Rattle.dali_batch.specs.Reads.{OnlyReads, ReadsOrFails};
 
 use crate::{BatchError, MOST_BYTES, OPEN};
 use byteorder::{BigEndian, ByteOrder};
@@ -80,12 +80,8 @@ fn read_bytes<V: Store>(
         (at + size ≤ length fs.log) × (body ≡ take size (drop at fs.log))))) }
     ensures none { IfOk result (λ read. IsNone read → IfSome (V.told store.old) (λ fs. length fs.log < at + size)) }
     ensures good { IfErr result (λ e. (bad : ℕ) → e ≡ BatchError.BadLog bad → ⊥) }
-    ensures reads { OnlyReads V.told V.moment V.left_since V.may_leave store.old store.new }
-    ensures later { V.faults store.old ≤ V.faults store.new }
-    ensures fault { IsErrOf result BatchError.Fault → Rose (V.faults store.old) (V.faults store.new) }
-    ensures kept { (IsErrOf result BatchError.Fault → ⊥) → V.faults store.new ≡ V.faults store.old }
+    ensures store { ReadsOrFails V.told V.moment V.left_since V.may_leave V.faults V.lets_pass (IsErrOf result BatchError.Fault) store.old store.new }
     ensures most { MakesAtMost 1 (V.lets_pass store.old) (V.lets_pass store.new) }
-    ensures passes { PassesFewer (V.lets_pass store.old) (V.lets_pass store.new) }
 {
     let mut bytes = vec![in alloc; 0; size as usize]?;
     if !fill(store, at, &mut bytes)? {
@@ -101,12 +97,8 @@ pub fn find<V: Store>(alloc: Global, store: &mut V, at: u64) -> Result<Found, Ba
     ensures found { IfOk result (λ found. IfSome (V.told store.old) (λ fs. IsFound fs.log at found)) }
     ensures further { IfOk result (λ found. IsFurther at found) }
     ensures bad { IfErr result (λ e. (bad : ℕ) → e ≡ BatchError.BadLog bad → IfSome (V.told store.old) (λ fs. IsBad fs.log at bad)) }
-    ensures reads { OnlyReads V.told V.moment V.left_since V.may_leave store.old store.new }
-    ensures later { V.faults store.old ≤ V.faults store.new }
-    ensures fault { IsErrOf result BatchError.Fault → Rose (V.faults store.old) (V.faults store.new) }
-    ensures kept { (IsErrOf result BatchError.Fault → ⊥) → V.faults store.new ≡ V.faults store.old }
+    ensures store { ReadsOrFails V.told V.moment V.left_since V.may_leave V.faults V.lets_pass (IsErrOf result BatchError.Fault) store.old store.new }
     ensures most { MakesAtMost 4 (V.lets_pass store.old) (V.lets_pass store.new) }
-    ensures passes { PassesFewer (V.lets_pass store.old) (V.lets_pass store.new) }
 {
     let length = store.length(FileName::Log)?;
     if length <= at {

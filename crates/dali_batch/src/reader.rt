@@ -1,12 +1,11 @@
 //! The log, record by record.
 ghost use Rattle.std.specs.Prelude.{◌≡◌, ◌≤◌, ◌<◌, ◌+◌, ◌-◌, ◌^◌, ◌++◌, ◌⊎◌, [], ◌∷◌, ℕ, true, false, Bool, List, Err, length, take, drop, IfOk, OnOk, OnErr, IfErr, IsErr, IsErrOf, IfSome, IsNone, IsSome};
-ghost use Rattle.dali_store.specs.Calls.{PassesFewer, MakesAtMost};
-ghost use Rattle.dali_store.specs.Faults.{Rose};
+ghost use Rattle.dali_store.specs.Calls.{MakesAtMost};
 ghost use Rattle.dali_record.specs.declared.records.Record.{Record};
 ghost use Rattle.dali_record.specs.Spelling.{CanBeSpelled, Begins, spelling};
 ghost use Rattle.dali_batch.specs.Batch.{IsUnformatted, IsClosedAt};
 ghost use Rattle.dali_batch.specs.Finding.{IsBad};
-ghost use Rattle.dali_batch.specs.Reads.{OnlyReads};
+ghost use Rattle.dali_batch.specs.Reads.{ReadsOrFails};
 ghost use Rattle.dali_batch.specs.Log.{IsBadFirst, BadAt, BadFrom};
 ghost use Rattle.dali_batch.specs.Stream.{Covers, IsWhole, IsWindow, IsReadFrom, HandsOut, GoesOn, EndsAt, IsBadFrom, Stays, HasBatch, Keeps};
 
@@ -90,29 +89,27 @@ pub fn format_of(alloc: Global, body: &[u8]) -> Option<(u32, u32)>
 }
 
 impl LogReader {
-    // Reads the part of the file that begins at a place where it has so many bytes.
-    fn read_ahead<V: Store>(
-        &mut self,
-        store: &mut V,
-        at: u64,
-        size: u32,
-    ) -> Result<bool, BatchError>
+    // Answers whether the file has so many bytes from a place on; they stand in the part that was read then. Where some of them
+    // don't stand in it, the part from that place on is read in its place.
+    fn need<V: Store>(&mut self, store: &mut V, at: u64, size: u32) -> Result<bool, BatchError>
         requires some { 0 < size }
         requires read { self.old.at ≡ self.old.end }
-        requires inside { at + size ≤ self.old.length }
-        ensures whole { IfOk result (λ whole. whole ≡ true → Covers self.new at size) }
-        ensures short { IfOk result (λ whole. whole ≡ false → IfSome (V.told store.old) (λ fs. self.old.length ≡ length fs.log → ⊥)) }
+        ensures whole { IfOk result (λ whole. whole ≡ true → Covers self.new at size × (at + size ≤ self.new.length)) }
+        ensures short { IfOk result (λ whole. whole ≡ false → IfSome (V.told store.old) (λ fs. IsWindow fs.log self.old → length fs.log < at + size)) }
         ensures window { OnOk result (IfSome (V.told store.old) (λ fs. IsWindow fs.log self.old → IsWindow fs.log self.new)) }
         ensures keeps { Keeps self.old self.new }
         ensures wanting { IsErrOf result BatchError.OutOfMemory → self.new ≡ self.old }
         ensures good { IfErr result (λ e. (bad : ℕ) → e ≡ BatchError.BadLog bad → ⊥) }
-        ensures reads { OnlyReads V.told V.moment V.left_since V.may_leave store.old store.new }
-        ensures later { V.faults store.old ≤ V.faults store.new }
-        ensures fault { IsErrOf result BatchError.Fault → Rose (V.faults store.old) (V.faults store.new) }
-        ensures kept { (IsErrOf result BatchError.Fault → ⊥) → V.faults store.new ≡ V.faults store.old }
+        ensures store { ReadsOrFails V.told V.moment V.left_since V.may_leave V.faults V.lets_pass (IsErrOf result BatchError.Fault) store.old store.new }
         ensures most { MakesAtMost 1 (V.lets_pass store.old) (V.lets_pass store.new) }
-        ensures passes { PassesFewer (V.lets_pass store.old) (V.lets_pass store.new) }
     {
+        if self.length < at || self.length - at < size as u64 {
+            return Ok(false);
+        }
+        let have = self.bytes.len() as u64;
+        if self.from <= at && at - self.from <= have && size as u64 <= have - (at - self.from) {
+            return Ok(true);
+        }
         let count = (self.length - at).min(self.ahead.max(size as u64));
         self.bytes.resize(count as usize, 0)?;
         self.from = at;
@@ -127,33 +124,6 @@ impl LogReader {
                 Err(fault.into())
             }
         }
-    }
-
-    // Answers whether the file has so many bytes from a place on; they stand in the part that was read then.
-    fn need<V: Store>(&mut self, store: &mut V, at: u64, size: u32) -> Result<bool, BatchError>
-        requires some { 0 < size }
-        requires read { self.old.at ≡ self.old.end }
-        ensures whole { IfOk result (λ whole. whole ≡ true → Covers self.new at size × (at + size ≤ self.new.length)) }
-        ensures short { IfOk result (λ whole. whole ≡ false → IfSome (V.told store.old) (λ fs. IsWindow fs.log self.old → length fs.log < at + size)) }
-        ensures window { OnOk result (IfSome (V.told store.old) (λ fs. IsWindow fs.log self.old → IsWindow fs.log self.new)) }
-        ensures keeps { Keeps self.old self.new }
-        ensures wanting { IsErrOf result BatchError.OutOfMemory → self.new ≡ self.old }
-        ensures good { IfErr result (λ e. (bad : ℕ) → e ≡ BatchError.BadLog bad → ⊥) }
-        ensures reads { OnlyReads V.told V.moment V.left_since V.may_leave store.old store.new }
-        ensures later { V.faults store.old ≤ V.faults store.new }
-        ensures fault { IsErrOf result BatchError.Fault → Rose (V.faults store.old) (V.faults store.new) }
-        ensures kept { (IsErrOf result BatchError.Fault → ⊥) → V.faults store.new ≡ V.faults store.old }
-        ensures most { MakesAtMost 1 (V.lets_pass store.old) (V.lets_pass store.new) }
-        ensures passes { PassesFewer (V.lets_pass store.old) (V.lets_pass store.new) }
-    {
-        if self.length < at || self.length - at < size as u64 {
-            return Ok(false);
-        }
-        let have = self.bytes.len() as u64;
-        if self.from <= at && at - self.from <= have && size as u64 <= have - (at - self.from) {
-            return Ok(true);
-        }
-        self.read_ahead(store, at, size)
     }
 
     // So many bytes from a place on, which stand in the part that was read.
@@ -177,12 +147,8 @@ impl LogReader {
         ensures keeps { Keeps self.old self.new }
         ensures wanting { IsErrOf result BatchError.OutOfMemory → IfSome (V.told store.old) (λ fs. IsWindow fs.log self.old → IsWindow fs.log self.new) }
         ensures bad { IfErr result (λ e. (bad : ℕ) → e ≡ BatchError.BadLog bad → IfSome (V.told store.old) (λ fs. IsWindow fs.log self.old → IsBad fs.log at bad)) }
-        ensures reads { OnlyReads V.told V.moment V.left_since V.may_leave store.old store.new }
-        ensures later { V.faults store.old ≤ V.faults store.new }
-        ensures fault { IsErrOf result BatchError.Fault → Rose (V.faults store.old) (V.faults store.new) }
-        ensures kept { (IsErrOf result BatchError.Fault → ⊥) → V.faults store.new ≡ V.faults store.old }
+        ensures store { ReadsOrFails V.told V.moment V.left_since V.may_leave V.faults V.lets_pass (IsErrOf result BatchError.Fault) store.old store.new }
         ensures most { MakesAtMost 3 (V.lets_pass store.old) (V.lets_pass store.new) }
-        ensures passes { PassesFewer (V.lets_pass store.old) (V.lets_pass store.new) }
     {
         if !self.need(store, at, 1)? {
             return Err(BatchError::BadLog { at });
@@ -215,12 +181,8 @@ impl LogReader {
         ensures bad { IfErr result (λ e. (bad : ℕ) → e ≡ LogError.BadLog bad → IfSome (V.told store.old) (λ fs. IsBadFirst fs.log bad)) }
         ensures log { IfErr result (λ e. (bad : ℕ) → e ≡ LogError.BadLog bad → IfSome (V.told store.old) (λ fs. BadAt fs.log bad)) }
         ensures unformatted { IsErrOf result LogError.Unformatted → IfSome (V.told store.old) (λ fs. IsUnformatted fs.log) }
-        ensures reads { OnlyReads V.told V.moment V.left_since V.may_leave store.old store.new }
-        ensures later { V.faults store.old ≤ V.faults store.new }
-        ensures fault { IsErrOf result LogError.Fault → Rose (V.faults store.old) (V.faults store.new) }
-        ensures kept { (IsErrOf result LogError.Fault → ⊥) → V.faults store.new ≡ V.faults store.old }
+        ensures store { ReadsOrFails V.told V.moment V.left_since V.may_leave V.faults V.lets_pass (IsErrOf result LogError.Fault) store.old store.new }
         ensures most { MakesAtMost 4 (V.lets_pass store.old) (V.lets_pass store.new) }
-        ensures passes { PassesFewer (V.lets_pass store.old) (V.lets_pass store.new) }
     {
         let length = store.length(FileName::Log)?;
         if length < 2 {
@@ -268,22 +230,17 @@ impl LogReader {
     }
 
     // Goes on to the batch behind the one that was read. It answers whether there is one.
-    fn next_batch<V: Store>(&mut self, store: &mut V) -> Result<bool, LogError>
+    fn next_batch<V: Store>(&mut self, store: &mut V) -> Result<bool, BatchError>
         requires read { self.old.at ≡ self.old.end }
         ensures whole { IsWhole self.new }
         ensures more { IfOk result (λ more. more ≡ true → (self.old.at < self.new.at) × (self.new.at < self.new.end)) }
         ensures none { IfOk result (λ more. more ≡ false → self.new.at ≡ self.new.end) }
         ensures stands { IfOk result (λ more. more ≡ true → IfSome (V.told store.old) (λ fs. Stays fs.log self.old self.new)) }
         ensures ends { IfOk result (λ more. more ≡ false → IfSome (V.told store.old) (λ fs. EndsAt fs.log self.old self.new)) }
-        ensures bad { IfErr result (λ e. (bad : ℕ) → e ≡ LogError.BadLog bad → IfSome (V.told store.old) (λ fs. IsBadFrom fs.log self.old bad)) }
-        ensures wanting { IsErrOf result LogError.OutOfMemory → IfSome (V.told store.old) (λ fs. Stays fs.log self.old self.new) }
-        ensures formatted { IsErrOf result LogError.Unformatted → ⊥ }
-        ensures reads { OnlyReads V.told V.moment V.left_since V.may_leave store.old store.new }
-        ensures later { V.faults store.old ≤ V.faults store.new }
-        ensures fault { IsErrOf result LogError.Fault → Rose (V.faults store.old) (V.faults store.new) }
-        ensures kept { (IsErrOf result LogError.Fault → ⊥) → V.faults store.new ≡ V.faults store.old }
+        ensures bad { IfErr result (λ e. (bad : ℕ) → e ≡ BatchError.BadLog bad → IfSome (V.told store.old) (λ fs. IsBadFrom fs.log self.old bad)) }
+        ensures wanting { IsErrOf result BatchError.OutOfMemory → IfSome (V.told store.old) (λ fs. Stays fs.log self.old self.new) }
+        ensures store { ReadsOrFails V.told V.moment V.left_since V.may_leave V.faults V.lets_pass (IsErrOf result BatchError.Fault) store.old store.new }
         ensures most { MakesAtMost 3 (V.lets_pass store.old) (V.lets_pass store.new) }
-        ensures passes { PassesFewer (V.lets_pass store.old) (V.lets_pass store.new) }
     {
         let place = self.end;
         let Some(size) = self.batch_at(store, place)? else {
@@ -337,12 +294,8 @@ impl LogReader {
         ensures bad { IfErr result (λ e. (bad : ℕ) → e ≡ LogError.BadLog bad → IfSome (V.told store.old) (λ fs. IsBadFrom fs.log self.old bad)) }
         ensures wanting { IsErrOf result LogError.OutOfMemory → IfSome (V.told store.old) (λ fs. Stays fs.log self.old self.new) }
         ensures formatted { IsErrOf result LogError.Unformatted → ⊥ }
-        ensures reads { OnlyReads V.told V.moment V.left_since V.may_leave store.old store.new }
-        ensures later { V.faults store.old ≤ V.faults store.new }
-        ensures fault { IsErrOf result LogError.Fault → Rose (V.faults store.old) (V.faults store.new) }
-        ensures kept { (IsErrOf result LogError.Fault → ⊥) → V.faults store.new ≡ V.faults store.old }
+        ensures store { ReadsOrFails V.told V.moment V.left_since V.may_leave V.faults V.lets_pass (IsErrOf result LogError.Fault) store.old store.new }
         ensures most { MakesAtMost 3 (V.lets_pass store.old) (V.lets_pass store.new) }
-        ensures passes { PassesFewer (V.lets_pass store.old) (V.lets_pass store.new) }
     {
         if self.at < self.end {
             self.next_record(into)?;
@@ -370,12 +323,8 @@ impl LogReader {
         ensures bad { IfErr result (λ e. (bad : ℕ) → e ≡ LogError.BadLog bad → IfSome (V.told store.old) (λ fs. IsBadFrom fs.log self.old bad)) }
         ensures wanting { IsErrOf result LogError.OutOfMemory → IfSome (V.told store.old) (λ fs. Stays fs.log self.old self.new) }
         ensures formatted { IsErrOf result LogError.Unformatted → ⊥ }
-        ensures reads { OnlyReads V.told V.moment V.left_since V.may_leave store.old store.new }
-        ensures later { V.faults store.old ≤ V.faults store.new }
-        ensures fault { IsErrOf result LogError.Fault → Rose (V.faults store.old) (V.faults store.new) }
-        ensures kept { (IsErrOf result LogError.Fault → ⊥) → V.faults store.new ≡ V.faults store.old }
+        ensures store { ReadsOrFails V.told V.moment V.left_since V.may_leave V.faults V.lets_pass (IsErrOf result LogError.Fault) store.old store.new }
         ensures most { MakesAtMost 3 (V.lets_pass store.old) (V.lets_pass store.new) }
-        ensures passes { PassesFewer (V.lets_pass store.old) (V.lets_pass store.new) }
     {
         let mut given = Placed {
             entry: Record::AuditBegin,

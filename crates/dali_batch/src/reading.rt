@@ -1,10 +1,8 @@
 //! The whole log, read from its first gate to its end.
-ghost use Rattle.std.specs.Prelude.{◌≡◌, ◌≤◌, ◌<◌, ◌^◌, ℕ, List, IfOk, IfErr, IsErrOf, IfSome};
-ghost use Rattle.dali_store.specs.Calls.{PassesFewer};
-ghost use Rattle.dali_store.specs.Faults.{Rose};
+ghost use Rattle.std.specs.Prelude.{◌≡◌, ◌<◌, ◌^◌, ℕ, List, IfOk, IfErr, IsErrOf, IfSome};
 ghost use Rattle.dali_record.specs.declared.records.Record.{Record};
 ghost use Rattle.dali_batch.specs.Batch.{IsUnformatted};
-ghost use Rattle.dali_batch.specs.Reads.{OnlyReads};
+ghost use Rattle.dali_batch.specs.Reads.{ReadsOrFails};
 ghost use Rattle.dali_batch.specs.Log.{LogOf, BadAt, records_in};
 
 use crate::{LogError, LogReader};
@@ -33,11 +31,7 @@ pub fn read_log<V: Store>(alloc: Global, store: &mut V) -> Result<Log, LogError>
     ensures small { IfOk result (λ log. log.end < 2 ^ 62) }
     ensures bad { IfErr result (λ e. (bad : ℕ) → e ≡ LogError.BadLog bad → IfSome (V.told store.old) (λ fs. BadAt fs.log bad)) }
     ensures unformatted { IsErrOf result LogError.Unformatted → IfSome (V.told store.old) (λ fs. IsUnformatted fs.log) }
-    ensures reads { OnlyReads V.told V.moment V.left_since V.may_leave store.old store.new }
-    ensures later { V.faults store.old ≤ V.faults store.new }
-    ensures fault { IsErrOf result LogError.Fault → Rose (V.faults store.old) (V.faults store.new) }
-    ensures kept { (IsErrOf result LogError.Fault → ⊥) → V.faults store.new ≡ V.faults store.old }
-    ensures passes { PassesFewer (V.lets_pass store.old) (V.lets_pass store.new) }
+    ensures store { ReadsOrFails V.told V.moment V.left_since V.may_leave V.faults V.lets_pass (IsErrOf result LogError.Fault) store.old store.new }
 {
     let (mut reader, (index, heap)) = LogReader::open(alloc, store)?;
     let mut records = Vec::new(alloc);

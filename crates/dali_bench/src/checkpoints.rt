@@ -92,6 +92,27 @@ pub fn run_first<V: Store + Drop>(
     Ok(timing.checked(length(core)?))
 }
 
+// Ten checkpoints of a database of which both images have each region, with a write of one region before each where that is
+// asked.
+fn run_again<V: Store + Drop>(
+    clock: &impl Clock,
+    alloc: Global,
+    store: V,
+    regions: u32,
+    writes: bool,
+) -> Result<Timing> {
+    let mut core = make(alloc, store, sizes_for(regions)?)?;
+    checkpoint_times(alloc, &mut core, 2)?;
+    let start = Instant::now(clock)?;
+    if writes {
+        write_and_checkpoint(alloc, &mut core, CHECKPOINTS)?;
+    } else {
+        checkpoint_times(alloc, &mut core, CHECKPOINTS)?;
+    }
+    let timing = Timing::since(clock, start, CHECKPOINTS as u64, "checkpoints")?;
+    Ok(timing.checked(length(core)?))
+}
+
 /// Ten checkpoints of a database with so many regions, of which both images have each. The check number is the length of
 /// the first image's file.
 pub fn run_clean<V: Store + Drop>(
@@ -100,12 +121,7 @@ pub fn run_clean<V: Store + Drop>(
     store: V,
     regions: u32,
 ) -> Result<Timing> {
-    let mut core = make(alloc, store, sizes_for(regions)?)?;
-    checkpoint_times(alloc, &mut core, 2)?;
-    let start = Instant::now(clock)?;
-    checkpoint_times(alloc, &mut core, CHECKPOINTS)?;
-    let timing = Timing::since(clock, start, CHECKPOINTS as u64, "checkpoints")?;
-    Ok(timing.checked(length(core)?))
+    run_again(clock, alloc, store, regions, false)
 }
 
 /// Ten checkpoints of a database with so many regions, one of which is written before each, so that the images lack it. The check
@@ -116,10 +132,5 @@ pub fn run_dirty<V: Store + Drop>(
     store: V,
     regions: u32,
 ) -> Result<Timing> {
-    let mut core = make(alloc, store, sizes_for(regions)?)?;
-    checkpoint_times(alloc, &mut core, 2)?;
-    let start = Instant::now(clock)?;
-    write_and_checkpoint(alloc, &mut core, CHECKPOINTS)?;
-    let timing = Timing::since(clock, start, CHECKPOINTS as u64, "checkpoints")?;
-    Ok(timing.checked(length(core)?))
+    run_again(clock, alloc, store, regions, true)
 }

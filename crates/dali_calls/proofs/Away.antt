@@ -1,5 +1,5 @@
 -- A walk that has left the home of its key never comes back to it: so a look at the home begins a call.
-use Rattle.std.proofs.Common.{◌≡◌, ℕ, ◌+◌, ◌<◌, ◌≢◌, ◌⊎◌, inl, inr, ⊎_elim, Bool, true, false, cond, List, [], ◌∷◌, Option, Some, None, refl, subst, arith, fold}
+use Rattle.std.proofs.Common.{◌≡◌, ℕ, ◌+◌, ◌<◌, ◌≢◌, ◌⊎◌, inl, inr, ⊎_elim, Bool, true, false, cond, List, [], ◌∷◌, Option, Some, None, refl, sym, subst, arith, fold}
 use Rattle.std.specs.Prelude.{◌==◌, ⊤, nat_lt, if◌then◌else◌, ◌&&◌, bytes_eq}
 use Rattle.std.proofs.Math.Nat.{mod-lt}
 use Rattle.std.proofs.lemmas.Bool.{ltb-true}
@@ -20,6 +20,7 @@ use Rattle.dali_record.specs.Operations.{undo_op}
 use Rattle.dali_record.specs.Log.{last_of}
 use Rattle.dali_record.specs.Calls.{Progress, Fresh, Walking, Nowhere, Somewhere, Storing, Adding, Removing, Finished, follow, look_next, put_next, store_next, add_next, cell_next, entry_next, after_look, after_put, after_add, after_read, after_change, after_kill_cell, after_kill_entry, when, on_item}
 use Rattle.dali_record.specs.Legal.{Working, TxnState, Unbegun, Active, Committed, Over, txn_step, txn_next, txn_state, allowed, either_state, goes_on, starts, forward, back, freed, is_of, is_onward, is_level, is_answer, dead_of, rested}
+use Rattle.dali_record.proofs.Moves.{over_next_is}
 
 -- so many regions behind the home, around the index
 pub record IsBehind (s : Sizes) (key region n : ℕ) : Type 0 where
@@ -228,14 +229,7 @@ committed_away s t ps (Solo u p b) = in_allowed s _ _ (in_cond s (p == t) (freed
 committed_away s t ps r = tt
 
 over_away : (s : Sizes) (t : ℕ) (r : Record) → AwayIn s (txn_step s t Over r)
-over_away s t (Begin u) = in_allowed s _ (Some Over) tt
-over_away s t (Forward u b) = in_allowed s _ (Some Over) tt
-over_away s t (Back u b) = in_allowed s _ (Some Over) tt
-over_away s t (Done u c a) = in_allowed s _ (Some Over) tt
-over_away s t (Commit u) = in_allowed s _ (Some Over) tt
-over_away s t (Ended u) = in_allowed s _ (Some Over) tt
-over_away s t (Solo u p b) = in_allowed s _ (Some Over) tt
-over_away s t r = tt
+over_away s t r = let next = over_next_is t r in subst (AwayIn s) (sym next.1) (in_allowed s next.0 (Some Over) tt)
 
 next_away : (s : Sizes) (t : ℕ) (o : Option TxnState) (r : Record) → 0 < s.index → AwayIn s o → AwayIn s (txn_next s t o r)
 next_away s t None r some h = tt

@@ -10,19 +10,14 @@ use Rattle.dali_system.specs.State.{SystemState, state_of, hold_in}
 use Rattle.dali_system.specs.Regions.{RegionStep, Latch, NoteReads, Update, TakeBack, Poke, Check, Die, Clean, IsOpen, MayChange, region_after, is_alive, IsAlone}
 use Rattle.dali_system.specs.Courses.{Step, OnRegion}
 use Rattle.dali_core.specs.declared.operation.Operation.{Operation}
-use Rattle.dali_core.specs.UnderWay.{IsUnderWay, IsUpdated}
+use Rattle.dali_core.specs.UnderWay.{IsUnderWay, OneIsUnderWay, IsUpdated}
+use Rattle.dali_core.proofs.UnderWays.{IsSameWay}
 use Rattle.dali_calls.specs.Operating.{IsHeldBy, IsOwn, Goes, AreUpdates, AreWritten}
 
 -- how many words are left
 abbrev pub words_left : Option Operation → ℕ
 words_left None = 0
 words_left (Some o) = length o.block.after - o.taken
-
-abbrev pub IsWay : Option Operation → RegionState → Type 0
-IsWay o g = IsSomeAnd o (λ o. IsUnderWay o.txn o.block o.left o.taken g)
-
-abbrev pub IsSameWay : Option Operation → Option Operation → Type 0
-IsSameWay o p = IfSome o (λ o. IsSomeAnd p (λ p. (p.txn ≡ o.txn) × (p.block ≡ o.block)))
 
 -- ---- who holds the region
 live_in : (t : ℕ) (o : Option Hold) → IsSomeAnd o (λ h. (h.txn ≡ t) × (h.dead ≡ false)) → IsSomeAnd o (λ h. h.dead ≡ false)
@@ -79,7 +74,7 @@ still_same (Some o) None c p q = absurd p
 still_same (Some o) (Some b) None p q = absurd q
 still_same (Some o) (Some b) (Some c) p q = (q.0 ∙ p.0, q.1 ∙ p.1)
 
-pub fewer_left : (a b : Option Operation) (g h : RegionState) → IsWay a g → IsWay b h → IsSameWay a b → IfSome a (λ o. IsSomeAnd b (λ p. p.taken ≡ o.taken + 1)) → words_left b < words_left a
+pub fewer_left : (a b : Option Operation) (g h : RegionState) → OneIsUnderWay a g → OneIsUnderWay b h → IsSameWay a b → IfSome a (λ o. IsSomeAnd b (λ p. p.taken ≡ o.taken + 1)) → words_left b < words_left a
 fewer_left None b g h w v s t = absurd w
 fewer_left (Some a) None g h w v s t = absurd v
 fewer_left (Some a) (Some b) g h w v s t =

@@ -5,7 +5,7 @@ use Rattle.std.proofs.lemmas.Bool.{lt-ltb}
 use Rattle.dali_record.specs.declared.operations.Block.{Block}
 use Rattle.dali_record.specs.declared.operations.Pending.{Pending}
 use Rattle.dali_record.specs.Log.{last_of, drop_last}
-use Rattle.dali_region.specs.State.{RegionState, latched, with_reads, touched, taken_back}
+use Rattle.dali_region.specs.State.{RegionState, touched, taken_back}
 use Rattle.dali_att.specs.Table.{undos_at, last_of as table_last}
 use Rattle.dali_system.specs.Steps.{back_logged}
 use Rattle.dali_system.specs.Regions.{RegionStep, TakeBack as TakesRegionBack, IsOpen}
@@ -14,10 +14,11 @@ use Rattle.dali_core.specs.declared.operation.Operation.{Operation}
 use Rattle.dali_core.specs.declared.take_back.TakeBack.{TakeBack}
 use Rattle.dali_core.specs.declared.want.Want.TheVariants.{Region}
 use Rattle.dali_core.specs.TakenBack.{next_undo, want_of, IsUndoBlock, IsUndoOn}
-use Rattle.dali_core.specs.UnderWay.{IsUnderWay}
 use Rattle.dali_core.specs.Served.{Served}
+use Rattle.dali_core.specs.UnderWay.{OneIsUnderWay}
+use Rattle.dali_core.proofs.UnderWays.{IsSameWay, IsMadeBack}
 use Rattle.dali_calls.specs.Operating.{IsHeldBy, AreWritten, Goes, IsTakenBack, Undone}
-use Rattle.dali_calls.proofs.Operating.{IsWay, IsSameWay, opened_by, goes_on, held_open}
+use Rattle.dali_calls.proofs.Operating.{opened_by, goes_on, held_open}
 
 -- ---- the operation of an undo
 pub record Rewritten (p : TakeBack) (g : RegionState) (q : TakeBack) (h : RegionState) : Type 0 where
@@ -30,14 +31,11 @@ pub record Rewritten (p : TakeBack) (g : RegionState) (q : TakeBack) (h : Region
   pub goes : Goes p.txn g steps h
   pub is_open : IsOpen h operation.txn operation.block
 
-abbrev pub IsMadeBack : TakeBack → RegionState → Option Operation → RegionState → Type 0
-IsMadeBack p g o g1 = IsSomeAnd o (λ o. (o.txn ≡ p.txn) × IsUndoBlock p.next o.block × IsUnderWay o.txn o.block o.left o.taken g1 × (g1 ≡ with_reads o.block.read (latched p.txn g)))
-
 -- on the region's own words
 abbrev pub IsMadeOn : TakeBack → RegionState → Option Operation → Type 0
 IsMadeOn p g o = IsSomeAnd o (λ o. IsUndoOn g.words p.next o.block)
 
-pub way_back_of : (p : TakeBack) (g : RegionState) (o : Option Operation) (g1 : RegionState) → IsMadeBack p g o g1 → IsWay o g1
+pub way_back_of : (p : TakeBack) (g : RegionState) (o : Option Operation) (g1 : RegionState) → IsMadeBack p g o g1 → OneIsUnderWay o g1
 way_back_of p g None g1 m = absurd m
 way_back_of p g (Some o) g1 m = m.2
 

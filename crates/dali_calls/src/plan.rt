@@ -1,5 +1,5 @@
 //! The plan of one call.
-ghost use Rattle.std.specs.Prelude.{◌≡◌, ◌≤◌, ◌+◌, ◌&&◌, [], ◌++◌, not, ◌==◌, Some, None, Ok, Err, OnOk, OnErr, IfOk, IfErr, IfSome, IsSome, IsSomeAnd, true, false, is_some, length};
+ghost use Rattle.std.specs.Prelude.{◌≡◌, ◌≤◌, ◌+◌, ◌&&◌, [], ◌++◌, not, Some, None, Ok, Err, OnOk, OnErr, IfOk, IfErr, IfSome, IsSome, IsSomeAnd, true, false, is_some, length};
 ghost use Rattle.dali_record.specs.declared.records.Record.TheVariants.{Forward, Done};
 ghost use Rattle.dali_record.specs.Calls.{follow};
 ghost use Rattle.dali_record.specs.Calls;
@@ -12,8 +12,9 @@ ghost use Rattle.dali_system.specs.State.{row_of};
 ghost use Rattle.dali_system.specs.Steps.{op_logged, back_logged, done_logged};
 ghost use Rattle.dali_system.specs.Keeps.{HasRoom};
 ghost use Rattle.dali_system.specs.Regions.{IsOpen};
-ghost use Rattle.dali_core.specs.Refused.{refusal, stop_refusal};
-ghost use Rattle.dali_core.specs.UnderWay.{IsUpdated, IsUnderWay};
+ghost use Rattle.dali_core.specs.Refused.{refusal};
+ghost use Rattle.dali_core.specs.UnderWay.{IsUnderWay, OneIsUnderWay, WritesNext};
+ghost use Rattle.dali_core.specs.Receipts.{GivesReceipt};
 ghost use Rattle.dali_core.specs.declared.error.SystemError.TheVariants.{OutOfMemory as Memory};
 ghost use Rattle.dali_core.specs.declared.want.Want.TheVariants.{Done as AnswerIsNext};
 ghost use Rattle.dali_calls.specs.declared.stage.Stage.TheVariants.{Fresh};
@@ -27,7 +28,7 @@ use crate::stage::{Stage, key_of};
 use dali_core::{OpenOperation, System, SystemError, Want};
 use dali_geometry::Geometry;
 use dali_locks::Mode;
-use dali_record::{Answer, Block, Call, Op, Pending, undo_op};
+use dali_record::{Answer, Block, Call, Op, undo_op};
 use dali_region::{LatchError, Receipt, Region};
 use std::marker::Model;
 
@@ -92,11 +93,7 @@ fn note_change(changes: &mut Changes, block: &Block)
     ensures { changes.new ≡ changes.old ++ undo_added block.now block.now.undo }
 {
     if let Some(undo) = block.undo {
-        changes.push(Pending {
-            key: block.key,
-            region: block.region,
-            undo,
-        });
+        changes.push(block.pending(undo));
     }
 }
 
@@ -229,15 +226,21 @@ impl Plan {
 
     /// Writes the next word of the open operation; false exactly where none is left.
     pub fn update(&mut self, region: &mut Region) -> bool
-        requires under_way { IsSomeAnd self.old.operation (λ o. IsUnderWay o.txn o.block o.left o.taken region.old) }
-        ensures under_way { IsSomeAnd self.new.operation (λ o. IsUnderWay o.txn o.block o.left o.taken region.new) }
-        ensures same { IfSome self.old.operation (λ o. IsSomeAnd self.new.operation (λ p. (p.txn ≡ o.txn) × (p.block ≡ o.block))) }
-        ensures some { IfSome self.old.operation (λ o. result ≡ not (o.left == 0)) }
-        ensures step { result ≡ true → IfSome self.old.operation (λ o. IsSomeAnd self.new.operation (λ p. p.taken ≡ o.taken + 1)) × IsUpdated region.old region.new }
-        ensures none { result ≡ false → (region.new ≡ region.old) × (self.new ≡ self.old) × IsSomeAnd self.new.operation (λ o. IsOpen region.new o.txn o.block) }
+        requires under_way { OneIsUnderWay self.old.operation region.old }
+        ensures writes { WritesNext self.old.operation region.old result self.new.operation region.new }
         ensures rest { self.new ≡ with_operation self.old self.new.operation }
     {
         self.operation.update(region)
+    }
+
+    // Takes back the words of the open operation, whose record was refused; then none is open.
+    fn let_go(&mut self, region: &mut Region)
+        requires { IsSome region.old.hold }
+        ensures closed { self.new ≡ with_operation self.old None }
+        ensures taken_back { region.new ≡ taken_back region.old }
+    {
+        self.operation.close();
+        region.take_back();
     }
 
     // The open operation goes on with the call.
@@ -270,8 +273,7 @@ impl Plan {
                 Ok(receipt)
             }
             Err(error) => {
-                self.operation.close();
-                region.take_back();
+                self.let_go(region);
                 Err(error)
             }
         }
@@ -286,11 +288,7 @@ impl Plan {
         requires way { Plans.is_back self.old ≡ true }
         requires written { IsSomeAnd self.old.operation (λ o. IsOpen region.old o.txn o.block) }
         ensures ok { OnOk result (IfSome self.old.operation (λ o. (system.new ≡ record system.old { state = back_logged system.old.state self.old.txn o.block }) × (region.new ≡ touched region.old) × (self.new ≡ went_back self.old))) }
-        ensures number { IfOk result (λ receipt. receipt.number ≡ system.old.state.records) }
-        ensures runs { OnOk result (system.old.state.stop ≡ None) }
-        ensures err { OnErr result ((system.new ≡ system.old) × (region.new ≡ taken_back region.old) × (self.new ≡ with_operation self.old None)) }
-        ensures refused { IfSome (stop_refusal system.old.state) (λ e. result ≡ Err e) }
-        ensures memory { stop_refusal system.old.state ≡ None → IfErr result (λ e. e ≡ Memory) }
+        ensures receipt { GivesReceipt system.old.state ((system.new ≡ system.old) × (region.new ≡ taken_back region.old) × (self.new ≡ with_operation self.old None)) result }
     {
         let Some(operation) = self.operation.get() else {
             unreachable!()
@@ -302,8 +300,7 @@ impl Plan {
                 Ok(receipt)
             }
             Err(error) => {
-                self.operation.close();
-                region.take_back();
+                self.let_go(region);
                 Err(error)
             }
         }

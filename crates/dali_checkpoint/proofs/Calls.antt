@@ -107,78 +107,62 @@ synced_there : (side : Side) (old : Side → Bool) → synced_with old side true
 synced_there SideA old = refl
 synced_there SideB old = refl
 
+-- a flush led to a point where all records are flushed, and where this is so
+pub record FlushedSo (p : Point) (IsSo : List (List Record) → Point → Type 0) : Type 0 where
+  pub to : Point
+  pub batches : List (List Record)
+  pub course : IsPointCourse p (Does Takes ∷ Does Flushes ∷ []) to
+  pub is : IsSo batches to
+  pub all : stable to.core ≡ length to.log
+  pub stay : Stays p to
+
 module _ {V : Type 0} (told : V → Option Disk) (may_leave : V → Disk → Type 0) (faults : V → ℕ) where
   -- ---- what the calls say of the vault
   pub flush_ran : (y : SystemState) (v w : Vaulted V) → FlushesFrame told may_leave faults y v w → v.stopped ≡ false
   flush_ran y v w said = sym (ap (λ (z : Vaulted V). z.stopped) said.2.vault) ∙ said.2.ok.runs
 
   -- ---- a flush, while a checkpoint is under way
-  pub record CopyingFlushed (s : Start) (p : Point) (gs : List RegionState) (z : SystemState) (w : Vaulted V) (c : Checkpointed) (h : Head) : Type 0 where
-    pub to : Point
-    pub batches : List (List Record)
-    pub course : IsPointCourse p (Does Takes ∷ Does Flushes ∷ []) to
-    pub is : IsCopying told may_leave faults s batches to gs z w c h
-    pub longer : length p.log ≤ length to.log
-    pub sizes : to.core.system.sizes ≡ p.core.system.sizes
+  flushed_so : (IsSo : List (List Record) → Point → Type 0) (s : Start) (B : List (List Record)) (p : Point) (gs : List RegionState) (y z : SystemState) (v w : Vaulted V)
+      → IsCoreAt told may_leave faults s B p gs y v → FlushesFrame told may_leave faults y v w → z ≡ taken y
+      → ((f : AllFlushed told may_leave faults s p gs v z w) → Stays p f.to → IsSo f.batches f.to) → FlushedSo p IsSo
+  flushed_so IsSo s B p gs y z v w at said is there = record { to = f.to; batches = f.batches; course = f.course; is = there f stay; all = f.all; stay = stay }
+    where
+      f : AllFlushed told may_leave faults s p gs v z w
+      f = flushes_all told may_leave faults gs y z v w (flush_ran y v w said) said is s B p at
+
+      stay : Stays p f.to
+      stay = both_stay p f.to f.course
+
+  abbrev pub CopyingFlushed : Start → Point → List RegionState → SystemState → Vaulted V → Checkpointed → Head → Type 0
+  CopyingFlushed s p gs z w c h = FlushedSo p (λ B q. IsCopying told may_leave faults s B q gs z w c h)
 
   pub copying_flushed : (s : Start) (B : List (List Record)) (p : Point) (gs : List RegionState) (y z : SystemState) (v w : Vaulted V) (c : Checkpointed) (h : Head)
       → IsCopying told may_leave faults s B p gs y v c h → FlushesFrame told may_leave faults y v w → z ≡ taken y
       → CopyingFlushed s p gs z w c h
-  copying_flushed s B p gs y z v w c h k said is = record {
-    to = f.to;
-    batches = f.batches;
-    course = f.course;
-    is = record {
-      at = f.at;
-      flag = ap (λ (x : SystemState). x.checking) is ∙ k.flag;
-      is = is_of_on p f.to c h stay k.is;
-      copies = all_copied_on p f.to h (length p.log) (length f.to.log) c.copied stay stay.longer k.copies;
-      under_way = f.keeps.under_way h c.copied k.under_way;
-    };
-    longer = stay.longer;
-    sizes = stay.sizes;
-  }
-    where
-      f : AllFlushed told may_leave faults s p gs v z w
-      f = flushes_all told may_leave faults gs y z v w (flush_ran y v w said) said is s B p k.at
+  copying_flushed s B p gs y z v w c h k said is = flushed_so (λ C q. IsCopying told may_leave faults s C q gs z w c h) s B p gs y z v w k.at said is (λ f stay. record {
+    at = f.at;
+    flag = ap (λ (x : SystemState). x.checking) is ∙ k.flag;
+    is = is_of_on p f.to c h stay k.is;
+    copies = all_copied_on p f.to h (length p.log) (length f.to.log) c.copied stay stay.longer k.copies;
+    under_way = f.keeps.under_way h c.copied k.under_way;
+  })
 
-      stay : Stays p f.to
-      stay = both_stay p f.to f.course
-
-  pub record SettledFlushed (s : Start) (p : Point) (gs : List RegionState) (z : SystemState) (w : Vaulted V) (c : Checkpointed) (h : Head) (n : ℕ) : Type 0 where
-    pub to : Point
-    pub batches : List (List Record)
-    pub course : IsPointCourse p (Does Takes ∷ Does Flushes ∷ []) to
-    pub is : IsSettled told may_leave faults s batches to gs z w c h n
-    pub all : stable to.core ≡ length to.log
-    pub stay : Stays p to
+  abbrev pub SettledFlushed : Start → Point → List RegionState → SystemState → Vaulted V → Checkpointed → Head → ℕ → Type 0
+  SettledFlushed s p gs z w c h n = FlushedSo p (λ B q. IsSettled told may_leave faults s B q gs z w c h n)
 
   pub settled_flushed : (s : Start) (B : List (List Record)) (p : Point) (gs : List RegionState) (y z : SystemState) (v w : Vaulted V) (c : Checkpointed) (h : Head) (n : ℕ)
       → IsSettled told may_leave faults s B p gs y v c h n → FlushesFrame told may_leave faults y v w → z ≡ taken y
       → SettledFlushed s p gs z w c h n
-  settled_flushed s B p gs y z v w c h n k said is = record {
-    to = f.to;
-    batches = f.batches;
-    course = f.course;
-    is = record {
-      at = f.at;
-      flag = ap (λ (x : SystemState). x.checking) is ∙ k.flag;
-      is = is_of_on p f.to c h stay k.is;
-      settled = k.settled;
-      within = omega (arith, k.within, stay.longer);
-      copies = subst (λ (z : Sizes). AreCopied f.to h n (regions z)) (sym stay.sizes) (all_copied_on p f.to h n n (regions p.core.system.sizes) stay (omega arith) k.copies);
-      head = ap f.to.heads (same_target p f.to stay.current) ∙ (ap (λ hs. hs (target p)) (both_heads p f.to f.course) ∙ k.head);
-      whole = f.keeps.whole k.whole;
-    };
-    all = f.all;
-    stay = stay;
-  }
-    where
-      f : AllFlushed told may_leave faults s p gs v z w
-      f = flushes_all told may_leave faults gs y z v w (flush_ran y v w said) said is s B p k.at
-
-      stay : Stays p f.to
-      stay = both_stay p f.to f.course
+  settled_flushed s B p gs y z v w c h n k said is = flushed_so (λ C q. IsSettled told may_leave faults s C q gs z w c h n) s B p gs y z v w k.at said is (λ f stay. record {
+    at = f.at;
+    flag = ap (λ (x : SystemState). x.checking) is ∙ k.flag;
+    is = is_of_on p f.to c h stay k.is;
+    settled = k.settled;
+    within = omega (arith, k.within, stay.longer);
+    copies = subst (λ (z : Sizes). AreCopied f.to h n (regions z)) (sym stay.sizes) (all_copied_on p f.to h n n (regions p.core.system.sizes) stay (omega arith) k.copies);
+    head = ap f.to.heads (same_target p f.to stay.current) ∙ (ap (λ hs. hs (target p)) (both_heads p f.to f.course) ∙ k.head);
+    whole = f.keeps.whole k.whole;
+  })
 
   -- ---- a start
   -- what the records come to is kept
@@ -434,7 +418,7 @@ module _ {V : Type 0} (told : V → Option Disk) (may_leave : V → Disk → Typ
         table = f.is.is.table;
       };
       settled = refl;
-      within = omega (arith, count, ap (λ (q : Point). length q.log) same, f.longer);
+      within = omega (arith, count, ap (λ (q : Point). length q.log) same, f.stay.longer);
       copies = λ r l. settled_copy r l;
       head = ap (λ (q : Point). q.heads (target q)) same ∙ head_there (target f.to) f.to.heads h;
       whole = done.whole (subst (λ i. IsUnderWayIn told may_leave faults f.to h i said.mid.store) all_is f.is.under_way);

@@ -12,10 +12,13 @@ use Rattle.dali_region.specs.State.{RegionState}
 use Rattle.dali_region.specs.Answers.{is_dirty, cleaned}
 use Rattle.dali_store.specs.declared.store.FileName.{FileName}
 use Rattle.dali_store.specs.Store.{Files as Disk, TornIn}
+use Rattle.dali_store.proofs.Moments.{if_some_with}
 use Rattle.dali_system.specs.State.{SystemState}
 use Rattle.dali_crash.specs.Checkpoints.{Head, Point, IsPointCourse}
 use Rattle.dali_crash.specs.Traces.{Start}
-use Rattle.dali_traces.specs.Disks.{image_file, image_name}
+use Rattle.dali_traces.specs.Disks.{image_file, image_name, AllSpell}
+use Rattle.dali_traces.specs.Bridges.{TracedTo}
+use Rattle.dali_traces.specs.NewFiles.{IsUnderWay, ReadsCopies}
 use Rattle.dali_traces.specs.Places.{place_of}
 use Rattle.dali_vault.specs.Vaulted.{Vaulted}
 use Rattle.dali_steps.specs.Said.{TornFrom, HasWritten}
@@ -44,46 +47,29 @@ faults_with faults n (Some v) = faults v
 abbrev over : {V : Type 0} → Vaulted V → Option V → Vaulted (Option V)
 over v store = record { store = store; end = v.end; flushed = v.flushed; current = v.current; stopped = v.stopped }
 
-module _ {V : Type 0} (told : V → Option Disk) (may_leave : V → Disk → Type 0) (faults : V → ℕ) (mid : Option Disk) (left : Disk → Type 0) (n : ℕ) where
-  up : (s : Start) (B : List (List Record)) (p : Point) (gs : List RegionState) (y : SystemState) (v : Vaulted V) (c : Checkpointed) (h : Head) → IsCopying told may_leave faults s B p gs y v c h
-      → IsCopying (told_with told mid) (leaves_with may_leave left) (faults_with faults n) s B p gs y (over v (Some v.store)) c h
-  up s B p gs y v c h k = record {
-    at = record {
-      regions = k.at.regions;
-      system = k.at.system;
-      vault = record {
-        run = k.at.vault.run;
-        vault = record { stopped = k.at.vault.vault.stopped; end = k.at.vault.vault.end; flushed = k.at.vault.vault.flushed; current = k.at.vault.vault.current; counted = k.at.vault.vault.counted };
-        files = k.at.vault.files;
-        reads = k.at.vault.reads;
-      };
-      none_in_hand = k.at.none_in_hand;
+-- a copy under way looks at no store: another one serves as well that tells the same, leaves no more, and counts as many faults
+carried : {V W : Type 0} (told : V → Option Disk) (may_leave : V → Disk → Type 0) (faults : V → ℕ) (told2 : W → Option Disk) (may_leave2 : W → Disk → Type 0) (faults2 : W → ℕ)
+    (s : Start) (B : List (List Record)) (p : Point) (gs : List RegionState) (y : SystemState) (v : Vaulted V) (c : Checkpointed) (h : Head) (store : W)
+    → told2 store ≡ told v.store → ((d : Disk) → may_leave2 store d → may_leave v.store d) → faults2 store ≡ faults v.store
+    → IsCopying told may_leave faults s B p gs y v c h → IsCopying told2 may_leave2 faults2 s B p gs y (record { store = store; end = v.end; flushed = v.flushed; current = v.current; stopped = v.stopped }) c h
+carried told may_leave faults told2 may_leave2 faults2 s B p gs y v c h store same fewer count k = record {
+  at = record {
+    regions = k.at.regions;
+    system = k.at.system;
+    vault = record {
+      run = k.at.vault.run;
+      vault = record { stopped = k.at.vault.vault.stopped; end = k.at.vault.vault.end; flushed = k.at.vault.vault.flushed; current = k.at.vault.vault.current; counted = k.at.vault.vault.counted ∙ sym count };
+      files = subst (λ (t : Option Disk). IfSome t (λ _. AllSpell (may_leave2 store) (TracedTo s B p))) (sym same)
+          (if_some_with {P = AllSpell (may_leave v.store) (TracedTo s B p)} (AllSpell (may_leave2 store) (TracedTo s B p)) (told v.store) (λ spell d left. spell d (fewer d left)) k.at.vault.files);
+      reads = λ runs. subst (λ (t : Option Disk). IfSome t (ReadsCopies p)) (sym same) (k.at.vault.reads runs);
     };
-    flag = k.flag;
-    is = k.is;
-    copies = k.copies;
-    under_way = k.under_way;
-  }
-
-  down : (s : Start) (B : List (List Record)) (p : Point) (gs : List RegionState) (y : SystemState) (v : Vaulted V) (c : Checkpointed) (h : Head)
-      → IsCopying (told_with told mid) (leaves_with may_leave left) (faults_with faults n) s B p gs y (over v (Some v.store)) c h → IsCopying told may_leave faults s B p gs y v c h
-  down s B p gs y v c h k = record {
-    at = record {
-      regions = k.at.regions;
-      system = k.at.system;
-      vault = record {
-        run = k.at.vault.run;
-        vault = record { stopped = k.at.vault.vault.stopped; end = k.at.vault.vault.end; flushed = k.at.vault.vault.flushed; current = k.at.vault.vault.current; counted = k.at.vault.vault.counted };
-        files = k.at.vault.files;
-        reads = k.at.vault.reads;
-      };
-      none_in_hand = k.at.none_in_hand;
-    };
-    flag = k.flag;
-    is = k.is;
-    copies = k.copies;
-    under_way = k.under_way;
-  }
+    none_in_hand = k.at.none_in_hand;
+  };
+  flag = k.flag;
+  is = k.is;
+  copies = k.copies;
+  under_way = subst (λ (t : Option Disk). IfSome t (IsUnderWay p h c.copied)) (sym same) k.under_way;
+}
 
 -- ---- a write in two parts
 between_tells : (f : FileName) (p : ℕ) (us : List ℕ) (o : Option Disk) → is_some (held_between f p us o) ≡ is_some o
@@ -155,7 +141,7 @@ run_far {V = V} told may_leave faults s B p gs y v w c h g (g2 ∷ more) k next 
     let leaves2 : Option V → Disk → Type 0 = mid_leaves told may_leave faults v w name (place_of c.copied) us bs both in
     let faults2 : Option V → ℕ = mid_faults told may_leave faults v w name (place_of c.copied) us bs both in
     let x = copy_goes_on told2 leaves2 faults2 s B p gs y (over v (Some v.store)) (over v None) c h g
-    (up told may_leave faults (held_between name (place_of c.copied) us (told v.store)) (TornFrom (may_leave v.store) name (place_of c.copied) (length us)) (faults v.store) s B p gs y v c h k)
+    (carried told may_leave faults told2 leaves2 faults2 s B p gs y v c h (Some v.store) refl (λ d left. left) refl k)
     at one.1 (first_part told may_leave faults v w name (place_of c.copied) us bs both) in
     let z = run_far told2 leaves2 faults2 s B x.to (slice_set gs c.copied (cleaned (side_in c) g)) y (over v None) (over w (Some w.store)) (record c { copied = c.copied + 1 }) h g2 more x.is
     (λ j a e.
@@ -167,8 +153,8 @@ run_far {V = V} told may_leave faults s B p gs y v w c h g (g2 ∷ more) k next 
     record {
       to = z.to;
       course = (x.to, x.step, subst (λ m. IsPointCourse x.to (copy_steps (c.copied + 1) (suc (length more)) m) z.to) log z.course);
-      is = down told may_leave faults (held_between name (place_of c.copied) us (told v.store)) (TornFrom (may_leave v.store) name (place_of c.copied) (length us)) (faults v.store) s B z.to
-          (change (cleaned (side_in c)) c.copied (suc (suc (length more))) gs) y w (record c { copied = c.copied + suc (suc (length more)) }) h
+      is = carried told2 leaves2 faults2 told may_leave faults s B z.to (change (cleaned (side_in c)) c.copied (suc (suc (length more))) gs) y (over w (Some w.store)) (record c { copied = c.copied + suc (suc (length more)) }) h
+          w.store refl (λ d left. left) refl
           (subst (λ m. IsCopying told2 leaves2 faults2 s B z.to (change (cleaned (side_in c)) c.copied (suc (suc (length more))) gs) y (over w (Some w.store)) (record c { copied = m }) h)
           (let e : c.copied + 1 + suc (length more) ≡ c.copied + suc (suc (length more)) = omega arith in e)
           (subst (λ (l : List RegionState). IsCopying told2 leaves2 faults2 s B z.to l y (over w (Some w.store)) (record c { copied = c.copied + 1 + suc (length more) }) h)

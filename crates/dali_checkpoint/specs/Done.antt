@@ -1,15 +1,18 @@
 -- What the calls of a checkpoint do with the store, in the words of the vault's calls.
 --     Reaches told side n v    the file of this side's image, where the store tells it, is long enough for the place of region n
+--     CallsStore faults lets_pass n r v w     by the answer r, the store has let n calls pass where it is Ok, and its count of faults rose where it is Fault
 --     Writes, FailsToWrite     all records are flushed and these bytes written to a file, or one of the two met a fault
 --     HasStarted y v c w       a checkpoint c started
 --     HasTurnedTo, FailsToTurn all records are flushed, the image is synced and the anchor moved, or one of the three met a fault
 --     IsKept y v z w           what an audit that failed logged is flushed, or doesn't wait any more
 --     IsLost y v z w e         or the vault was stopped before, or its flush met a fault, and e tells which
 --     HasEnded y v z w         one of both
-use Rattle.std.specs.Prelude.{◌≡◌, ℕ, ◌≤◌, true, false, ◌⊎◌, List, [], drop, length, Option, Some, None, IfSome}
+use Rattle.std.specs.Prelude.{◌≡◌, ℕ, ◌≤◌, true, false, ◌⊎◌, List, [], drop, length, Option, Some, None, IfSome, Result, OnOk, IsErrOf}
 use Rattle.dali_region.specs.declared.Side.{Side}
 use Rattle.dali_store.specs.declared.store.FileName.{FileName}
 use Rattle.dali_store.specs.Store.{Files as Disk}
+use Rattle.dali_store.specs.Calls.{fewer}
+use Rattle.dali_store.specs.Faults.{Rose}
 use Rattle.dali_system.specs.State.{SystemState}
 use Rattle.dali_system.specs.Steps.{taken, store_stopped, in_checkpoint}
 use Rattle.dali_traces.specs.Disks.{image_file, image_name, table_bytes}
@@ -25,6 +28,10 @@ use Rattle.dali_checkpoint.specs.declared.error.CheckpointError.TheVariants.{Sto
 
 abbrev pub Reaches : {V : Type 0} → (V → Option Disk) → Side → ℕ → Vaulted V → Type 0
 Reaches told side n v = IfSome (told v.store) (λ fs. place_of n ≤ length (image_file side fs))
+
+pub record CallsStore {V T : Type 0} (faults : V → ℕ) (lets_pass : V → Option ℕ) (n : ℕ) (r : Result T CheckpointError) (v w : V) : Type 0 where
+  pub calls : OnOk r (lets_pass w ≡ fewer n (lets_pass v))
+  pub rose : IsErrOf r Fault → Rose (faults v) (faults w)
 
 module _ {V : Type 0} (told : V → Option Disk) (may_leave : V → Disk → Type 0) (faults : V → ℕ) where
   -- ---- a flush and a write

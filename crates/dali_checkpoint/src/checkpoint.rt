@@ -4,7 +4,6 @@ ghost use Rattle.dali_geometry.specs.Places.{regions as regions_of};
 ghost use Rattle.dali_record.specs.Spelling.{words_bytes};
 ghost use Rattle.dali_region.specs.Answers.{is_dirty, cleaned};
 ghost use Rattle.dali_store.specs.Calls.{fewer, one_less};
-ghost use Rattle.dali_store.specs.Faults.{Rose};
 ghost use Rattle.dali_store.specs.Store.{LeavesOnly};
 ghost use Rattle.dali_system.specs.declared.causes.Cause.TheVariants.{Store as ByStore};
 ghost use Rattle.dali_system.specs.Steps.{taken, store_stopped, in_checkpoint};
@@ -14,7 +13,7 @@ ghost use Rattle.dali_traces.specs.Places.{place_of};
 ghost use Rattle.dali_steps.specs.Said.{TornFrom, HasWritten, WriteHasFailed};
 ghost use Rattle.dali_whole.specs.Moments.{flush_calls, FlushLeaves, Within};
 ghost use Rattle.dali_checkpoint.specs.Kept.{side_in, cause_of, given_up, IsEndOf};
-ghost use Rattle.dali_checkpoint.specs.Done.{Reaches, Writes, FailsToWrite, HasStarted, HasTurnedTo, FailsToTurn, IsKept, IsLost};
+ghost use Rattle.dali_checkpoint.specs.Done.{Reaches, CallsStore, Writes, FailsToWrite, HasStarted, HasTurnedTo, FailsToTurn, IsKept, IsLost};
 ghost use Rattle.dali_whole.specs.Cores.{IsNoShorter};
 ghost use Rattle.dali_whole.specs.Cores.{HoldsPlaces};
 ghost use Rattle.dali_checkpoint.specs.Moments.{WriteLeaves, TurnLeaves};
@@ -81,8 +80,7 @@ fn begin<V: Store>(
     ensures any_moment { vault.old.stopped ≡ false → Within V.told V.moment V.left_since vault.old vault.new
         (WriteLeaves V.told V.may_leave V.faults system.old.state vault.old (image_name (Checkpoints.side_of (vault.old.current + 1))) 0 64) }
     ensures grows { vault.new.end ≤ vault.old.end + 2 ^ 31 }
-    ensures calls { OnOk result (V.lets_pass vault.new.store ≡ fewer (flush_calls system.old.state + 1) (V.lets_pass vault.old.store)) }
-    ensures rose { IsErrOf result Fault → Rose (V.faults vault.old.store) (V.faults vault.new.store) }
+    ensures store { CallsStore V.faults V.lets_pass (flush_calls system.old.state + 1) result vault.old.store vault.new.store }
 {
     if let Some(cause) = parts::cause_of(system, vault) {
         return Err(CheckpointError::Stopped { cause });
@@ -133,8 +131,7 @@ fn anchor<V: Store>(
     ensures files { IsNoShorter V.told vault.old vault.new }
     ensures any_moment { vault.old.stopped ≡ false → Within V.told V.moment V.left_since vault.old vault.new (TurnLeaves V.told V.may_leave V.faults system.old.state vault.old (Checkpoints.side_of number)) }
     ensures grows { vault.new.end ≤ vault.old.end + 2 ^ 31 }
-    ensures calls { OnOk result (V.lets_pass vault.new.store ≡ fewer (flush_calls system.old.state + 5) (V.lets_pass vault.old.store)) }
-    ensures rose { IsErrOf result Fault → Rose (V.faults vault.old.store) (V.faults vault.new.store) }
+    ensures store { CallsStore V.faults V.lets_pass (flush_calls system.old.state + 5) result vault.old.store vault.new.store }
     ensures promised { system.new.promised ≡ system.old.promised }
 {
     if let Some(cause) = parts::cause_of(system, vault) {
@@ -158,8 +155,7 @@ fn keep_failure<V: Store>(
     ensures files { IsNoShorter V.told vault.old vault.new }
     ensures any_moment { vault.old.stopped ≡ false → Within V.told V.moment V.left_since vault.old vault.new (FlushLeaves V.may_leave system.old.state vault.old) }
     ensures grows { vault.new.end ≤ vault.old.end + 2 ^ 31 }
-    ensures calls { OnOk result (V.lets_pass vault.new.store ≡ fewer (flush_calls system.old.state) (V.lets_pass vault.old.store)) }
-    ensures rose { IsErrOf result Fault → Rose (V.faults vault.old.store) (V.faults vault.new.store) }
+    ensures store { CallsStore V.faults V.lets_pass (flush_calls system.old.state) result vault.old.store vault.new.store }
     ensures ends { system.new.state.checking ≡ false }
     ensures promised { system.new.promised ≡ system.old.promised }
 {
@@ -198,8 +194,7 @@ impl Checkpoint {
         ensures any_moment { vault.old.stopped ≡ false → Within V.told V.moment V.left_since vault.old vault.new
             (WriteLeaves V.told V.may_leave V.faults system.old.state vault.old (image_name (Checkpoints.side_of (vault.old.current + 1))) 0 64) }
         ensures grows { vault.new.end ≤ vault.old.end + 2 ^ 31 }
-        ensures calls { OnOk result (V.lets_pass vault.new.store ≡ fewer (flush_calls system.old.state + 1) (V.lets_pass vault.old.store)) }
-        ensures rose { IsErrOf result Fault → Rose (V.faults vault.old.store) (V.faults vault.new.store) }
+        ensures store { CallsStore V.faults V.lets_pass (flush_calls system.old.state + 1) result vault.old.store vault.new.store }
         ensures same { (IsErrOf result Fault → ⊥) → OnErr result ((system.new ≡ system.old) × (vault.new ≡ vault.old)) }
     {
         if !system.start_copy() {
@@ -355,8 +350,7 @@ impl Checkpoint {
         ensures any_moment { vault.old.stopped ≡ false → Within V.told V.moment V.left_since vault.old vault.new
             (WriteLeaves V.told V.may_leave V.faults system.old.state vault.old (image_name (side_in self.old)) (place_of self.old.copied) (length self.old.table)) }
         ensures grows { vault.new.end ≤ vault.old.end + 2 ^ 31 }
-        ensures calls { OnOk result (V.lets_pass vault.new.store ≡ fewer (flush_calls system.old.state + 1) (V.lets_pass vault.old.store)) }
-        ensures rose { IsErrOf result Fault → Rose (V.faults vault.old.store) (V.faults vault.new.store) }
+        ensures store { CallsStore V.faults V.lets_pass (flush_calls system.old.state + 1) result vault.old.store vault.new.store }
         ensures same { OnErr result (self.new ≡ self.old) }
     {
         if let Some(cause) = parts::cause_of(system, vault) {
@@ -405,9 +399,8 @@ impl Checkpoint {
         ensures failing_moment { (verdict.failing ≡ [] → ⊥) → vault.old.stopped ≡ false → Within V.told V.moment V.left_since vault.old vault.new
             (FlushLeaves V.may_leave system.old.state vault.old) }
         ensures grows { vault.new.end ≤ vault.old.end + 2 ^ 31 }
-        ensures calls { OnOk result (V.lets_pass vault.new.store ≡ fewer (flush_calls system.old.state + 5) (V.lets_pass vault.old.store)) }
+        ensures store { CallsStore V.faults V.lets_pass (flush_calls system.old.state + 5) result vault.old.store vault.new.store }
         ensures failing_calls { IsErrOf result (Failed verdict.failing) → V.lets_pass vault.new.store ≡ fewer (flush_calls system.old.state) (V.lets_pass vault.old.store) }
-        ensures rose { IsErrOf result Fault → Rose (V.faults vault.old.store) (V.faults vault.new.store) }
         ensures ends { system.new.state.checking ≡ false }
         ensures promised { system.new.promised ≡ system.old.promised }
     {

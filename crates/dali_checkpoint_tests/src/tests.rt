@@ -10,7 +10,6 @@ ghost use Rattle.dali_checkpoint.specs.Done.{Reaches};
 ghost use Rattle.dali_checkpoint_tests.specs.Flags.{IsUncopied, AreUncopied, IsFresh, HasBegun};
 
 use dali_audit::{Audit, Verdict};
-use dali_batch::{Frame, format, is_formatted};
 use dali_checkpoint::{Checkpoint, CheckpointError, make_checkpoint};
 use dali_core::{System, SystemError};
 use dali_geometry::Geometry;
@@ -18,16 +17,11 @@ use dali_memstore::{Fuse, MemoryStore};
 use dali_region::Region;
 use dali_store::{FileName, Store};
 use dali_system::Cause;
+use dali_test_vaults::new_vault;
 use dali_vault::Vault;
 use dali_whole::Core;
 use std::alloc::Global;
 use std::test::Fail;
-
-// The record of a format with one index region and one heap region.
-const FIRST: [u8; 10] = [1, 1, 0, 0, 0, 1, 0, 0, 0, 1];
-
-// The calls that a format makes: a sync, a length and a read; a length, two writes and two syncs; a batch's four.
-const BEFORE: u64 = 12;
 
 // A database of two regions, without locks and transactions.
 #[derive(Drop)]
@@ -38,36 +32,6 @@ struct Small<V: Store> {
     vault: Vault<V>,
 }
 
-// Formats a store with this first batch.
-fn vault_of<V: Store + Drop>(store: V, first: &Frame) -> Option<Vault<V>>
-    requires { 0 < length first.now.body }
-{
-    let mut store = store;
-    match is_formatted(&mut store) {
-        Ok(false) => {}
-        _ => return None,
-    }
-    match format(&mut store, first) {
-        Ok(end) => Some(Vault::new(store, end, 0)),
-        Err(_) => None,
-    }
-}
-
-// A store in memory that passes so many calls on once it is formatted.
-fn formatted(alloc: Global, passes: u64) -> Option<Vault<Fuse<MemoryStore>>> {
-    let fuse = Fuse::new(
-        MemoryStore::new(alloc, Vec::new(alloc)),
-        Some(BEFORE.saturating_add(passes)),
-    );
-    let Ok(mut first) = Frame::new(alloc) else {
-        return None;
-    };
-    if first.add(&FIRST).is_err() || first.is_empty() {
-        return None;
-    }
-    vault_of(fuse, &first)
-}
-
 // A database whose store passes so many calls on once it is formatted, with one transaction that has begun. Each word of the
 // index region is 1, and each of the heap region 2.
 fn begun(alloc: Global, passes: u64) -> Option<Small<Fuse<MemoryStore>>>
@@ -76,7 +40,7 @@ fn begun(alloc: Global, passes: u64) -> Option<Small<Fuse<MemoryStore>>>
     ensures fresh { IfSome result (λ s. IsFresh s.index × IsFresh s.heap) }
     ensures begun { IfSome result (λ s. HasBegun s.system.state) }
 {
-    let vault = formatted(alloc, passes)?;
+    let (vault, _) = new_vault(alloc, passes)?;
     let Ok(geometry) = Geometry::new(1, 1) else {
         return None;
     };
@@ -645,7 +609,7 @@ fn runs_between<V: Store>(
 fn runs_of(alloc: Global, count: u32, dirty: &[usize]) -> Option<[Vec<u32>; 2]>
     requires { 2 ≤ count }
 {
-    let mut vault = formatted(alloc, 900)?;
+    let (mut vault, _) = new_vault(alloc, 900)?;
     let mut system = system_of(alloc, count)?;
     let mut regions = load_all(alloc, count)?;
     runs_between(alloc, &mut system, &mut regions, &mut vault, dirty)

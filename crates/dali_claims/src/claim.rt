@@ -225,17 +225,11 @@ fn close<C: Sizes>(board: &Board, mut seats: Vec<ClaimSeat>)
 fn crosses_threads(claims: &Claims, seat: ClaimSeat) -> ClaimSeat
     ensures { result ≡ seat }
 {
-    sent(shared(claims, seat))
+    crosses(claims, seat)
 }
 
-fn shared<T: Sync, U>(_: &T, other: U) -> U
-    ensures { result ≡ other }
+fn crosses<T: Sync, U: Send>(_: &T, given: U) -> U
+    ensures { result ≡ given }
 {
-    other
-}
-
-fn sent<T: Send>(value: T) -> T
-    ensures { result ≡ value }
-{
-    value
+    given
 }

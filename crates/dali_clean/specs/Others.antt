@@ -3,14 +3,17 @@
 --     RowStays rs y u rs' z    u has the row that it had; or it is dead as it was, a region that it had latched is free, and its row names none
 --     OthersStay rs y t rs' z  each other transaction has its row so, and its locks; and no region is latched that wasn't
 --     HasKept s z              each transaction, t too, has the locks that it had, and the memory promised
-use Rattle.std.specs.Prelude.{◌≡◌, ◌==◌, ◌⊎◌, ℕ, false, List, None, Some, slice_get, option_map}
+--     CleansOnly rs s t result rs' z   what a clean-up with this answer leaves to all: to the others as above, with the memory promised to them; t is
+--                              gone where it is cleaned up, and has kept what it had where that is refused; the flags of the regions stay
+use Rattle.std.specs.Prelude.{◌≡◌, ◌==◌, ◌⊎◌, ℕ, false, List, None, Some, Result, OnOk, OnErr, slice_get, option_map}
 use Rattle.dali_region.specs.declared.Hold.{Hold}
 use Rattle.dali_region.specs.State.{RegionState}
 use Rattle.dali_att.specs.declared.state.State.TheVariants.{Dead}
 use Rattle.dali_att.specs.Table.{with_state}
 use Rattle.dali_system.specs.State.{SystemState, row_of, state_of, lock_of, hold_in}
 use Rattle.dali_core.specs.Served.{Served}
-use Rattle.dali_calls.specs.Others.{HoldStays}
+use Rattle.dali_calls.specs.Flags.{FlagsStay}
+use Rattle.dali_calls.specs.Others.{HoldStays, PromisesStay, IsGone}
 use Rattle.dali_clean.specs.Cleaned.{IsDead}
 
 abbrev pub IsFreed : List RegionState → ℕ → List RegionState → Type 0
@@ -28,3 +31,10 @@ pub record OthersStay (rs : List RegionState) (y : SystemState) (t : ℕ) (rs' :
 pub record HasKept (s z : Served) : Type 0 where
   pub locks : z.state.locks ≡ s.state.locks
   pub promised : z.promised ≡ s.promised
+
+pub record CleansOnly {A E : Type 0} (rs : List RegionState) (s : Served) (t : ℕ) (result : Result A E) (rs' : List RegionState) (z : Served) : Type 0 where
+  pub others : OthersStay rs s.state t rs' z.state
+  pub promises : PromisesStay s t z
+  pub gone : OnOk result (IsGone z.state t)
+  pub kept : OnErr result (HasKept s z)
+  pub flags : FlagsStay rs rs'

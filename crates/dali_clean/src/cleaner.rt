@@ -6,10 +6,9 @@ ghost use Rattle.dali_system.specs.State.{state_of};
 ghost use Rattle.dali_core.specs.Refused.{stop_refusal};
 ghost use Rattle.dali_core.specs.declared.error.SystemError.TheVariants.{OutOfMemory as Memory};
 ghost use Rattle.dali_calls.specs.Flags.{FlagsStay};
-ghost use Rattle.dali_calls.specs.Others.{PromisesStay, IsGone};
 ghost use Rattle.dali_clean.specs.declared.error.CleanError.TheVariants.{NotDead as IsNotDead, Stopped, OutOfMemory};
 ghost use Rattle.dali_clean.specs.Cleaned.{AreDead, MayClean, IsDead, IsLeftAt, IsRecovered, IsCleaning, Claims, LeadsOn, IsUndone, Ends, GivesBack};
-ghost use Rattle.dali_clean.specs.Others.{OthersStay, HasKept};
+ghost use Rattle.dali_clean.specs.Others.{OthersStay, HasKept, CleansOnly};
 
 use crate::error::CleanError;
 use crate::undoing::{release, undo};
@@ -78,11 +77,7 @@ fn finish(regions: &mut [Region], system: &mut System, txn: u64) -> Result<(), S
     ensures is { OnErr result (IsCleaning regions.new system.new.state txn) }
     ensures refused { IfSome (stop_refusal system.old.state) (λ e. result ≡ Err e) }
     ensures memory { stop_refusal system.old.state ≡ None → IfErr result (λ e. e ≡ Memory) }
-    ensures others { OthersStay regions.old system.old.state txn regions.new system.new.state }
-    ensures promises { PromisesStay system.old txn system.new }
-    ensures gone { OnOk result (IsGone system.new.state txn) }
-    ensures kept { OnErr result (HasKept system.old system.new) }
-    ensures flags { FlagsStay regions.old regions.new }
+    ensures only { CleansOnly regions.old system.old txn result regions.new system.new }
 {
     match take_back(regions, system, txn) {
         Ok(()) => {}
@@ -111,11 +106,7 @@ pub fn clean(regions: &mut [Region], system: &mut System, txn: u64) -> Result<()
     ensures dead { AreDead regions.new }
     ensures refused { IsDead (state_of system.old.state txn) → IfSome system.old.state.stop (λ cause. result ≡ Err (Stopped cause)) }
     ensures memory { system.old.state.stop ≡ None → IfErr result (λ e. (e ≡ IsNotDead → ⊥) → e ≡ OutOfMemory) }
-    ensures others { OthersStay regions.old system.old.state txn regions.new system.new.state }
-    ensures promises { PromisesStay system.old txn system.new }
-    ensures gone { OnOk result (IsGone system.new.state txn) }
-    ensures kept { OnErr result (HasKept system.old system.new) }
-    ensures flags { FlagsStay regions.old regions.new }
+    ensures only { CleansOnly regions.old system.old txn result regions.new system.new }
 {
     match claim(regions, system, txn) {
         Ok(()) => {}

@@ -11,6 +11,3 @@ pub use cleaner::clean;
 pub use error::CleanError;
 pub use fit::{is_of_kind, may_clean};
 pub use undoing::release;
-
-#[cfg(test)]
-mod tests;

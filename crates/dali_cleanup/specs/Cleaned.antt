@@ -5,6 +5,7 @@
 --     IsLeft t g               the region has the hold with which the client of t died
 --     MayLatch c g             what a latch asks: the claim, and a hold that its dead client left, or an undo to be performed
 --     clean_answer ..          what a latch answers
+--     MayCommit c g y          what a commit asks: the operation is open on g, the transaction is claimed, and the undo is the last one of it still
 --     IsWhole c                what is true of every clean-up
 use Rattle.std.specs.Prelude.{◌≡◌, ℕ, Bool, true, false, ⊤, Option, Some, None, IsSome, IsSomeAnd, Result, Ok}
 use Rattle.dali_record.specs.declared.operations.Pending.{Pending}
@@ -12,10 +13,14 @@ use Rattle.dali_record.specs.Spelling.{IsUndo}
 use Rattle.dali_region.specs.State.{RegionState}
 use Rattle.dali_region.specs.Answers.{latch_answer}
 use Rattle.dali_region.specs.declared.LatchError.{LatchError}
-use Rattle.dali_core.specs.TakenBack.{IsUndoBlock}
+use Rattle.dali_att.specs.Table.{undos_at}
+use Rattle.dali_system.specs.State.{SystemState, state_of}
+use Rattle.dali_system.specs.Regions.{IsOpen}
+use Rattle.dali_core.specs.TakenBack.{IsUndoBlock, next_undo}
 use Rattle.dali_core.specs.declared.want.Want.{Want}
 use Rattle.dali_core.specs.declared.want.Want.TheVariants.{Region, Done, Nothing}
 use Rattle.dali_core.specs.declared.operation.Operation.{Operation}
+use Rattle.dali_calls.specs.TakingBack.{is_claimed}
 
 pub record Cleaned : Type 0 where
   pub txn : ℕ
@@ -47,6 +52,11 @@ MayLatch c g = (c.claimed ≡ true) × may_latch c.txn c.latched c.next g
 abbrev pub clean_answer : Option ℕ → Bool → RegionState → Result (Unit {0}) LatchError
 clean_answer (Some r) precheck g = Ok tt
 clean_answer None precheck g = latch_answer precheck g
+
+pub record MayCommit (c : Cleaned) (g : RegionState) (y : SystemState) : Type 0 where
+  pub written : IsSomeAnd c.operation (λ o. IsOpen g o.txn o.block)
+  pub claimed : IsSomeAnd (state_of y c.txn) is_claimed
+  pub last : c.next ≡ next_undo (undos_at y.table c.txn) 0
 
 -- ---- what is true of every clean-up
 abbrev pub AreUndone : Option Pending → Type 0

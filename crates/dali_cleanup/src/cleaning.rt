@@ -1,19 +1,17 @@
 //! The clean-up of a dead transaction, made as steps.
-ghost use Rattle.std.specs.Prelude.{◌≡◌, ◌+◌, not, ◌==◌, true, false, Some, None, OnOk, OnErr, IfOk, IfErr, IfSome, IsSomeAnd, Option as OptionOf, Err, ℕ};
+ghost use Rattle.std.specs.Prelude.{◌≡◌, true, false, Some, None, OnOk, OnErr, IfOk, IfSome, IsSomeAnd, Option as OptionOf, ℕ};
 ghost use Rattle.std.specs.FinMap as map;
 ghost use Rattle.dali_att.specs.Table.{undos_at};
 ghost use Rattle.dali_att.specs.declared.state.State.TheVariants.{Dead, Cleaning as Claimed};
 ghost use Rattle.dali_region.specs.State.{latched, with_reads, touched, taken_back};
 ghost use Rattle.dali_system.specs.State.{state_of};
 ghost use Rattle.dali_system.specs.Steps.{in_state, back_logged, ended_logged};
-ghost use Rattle.dali_system.specs.Regions.{IsOpen};
-ghost use Rattle.dali_core.specs.Refused.{stop_refusal};
 ghost use Rattle.dali_core.specs.TakenBack.{next_undo, IsUndoBlock, IsUndoOn};
-ghost use Rattle.dali_core.specs.UnderWay.{IsUpdated, IsUnderWay};
-ghost use Rattle.dali_core.specs.declared.error.SystemError.TheVariants.{OutOfMemory as Memory};
+ghost use Rattle.dali_core.specs.UnderWay.{IsUnderWay, OneIsUnderWay, WritesNext};
+ghost use Rattle.dali_core.specs.Receipts.{GivesReceipt};
 ghost use Rattle.dali_core.specs.declared.want.Want.TheVariants.{Done};
 ghost use Rattle.dali_calls.specs.TakingBack.{is_claimed};
-ghost use Rattle.dali_cleanup.specs.Cleaned.{want_of, clean_answer, MayLatch};
+ghost use Rattle.dali_cleanup.specs.Cleaned.{want_of, clean_answer, MayLatch, MayCommit};
 
 use dali_core::{NotDead, System, SystemError, TakeBack, Want};
 use dali_region::{LatchError, Receipt, Region};
@@ -123,12 +121,8 @@ impl Cleaning {
 
     /// Writes the next word of the open operation; false exactly where none is left.
     pub fn update(&mut self, region: &mut Region) -> bool
-        requires under_way { IsSomeAnd self.old.operation (λ o. IsUnderWay o.txn o.block o.left o.taken region.old) }
-        ensures under_way { IsSomeAnd self.new.operation (λ o. IsUnderWay o.txn o.block o.left o.taken region.new) }
-        ensures same { IfSome self.old.operation (λ o. IsSomeAnd self.new.operation (λ p. (p.txn ≡ o.txn) × (p.block ≡ o.block))) }
-        ensures some { IfSome self.old.operation (λ o. result ≡ not (o.left == 0)) }
-        ensures step { result ≡ true → IfSome self.old.operation (λ o. IsSomeAnd self.new.operation (λ p. p.taken ≡ o.taken + 1)) × IsUpdated region.old region.new }
-        ensures none { result ≡ false → (region.new ≡ region.old) × (self.new ≡ self.old) × IsSomeAnd self.new.operation (λ o. IsOpen region.new o.txn o.block) }
+        requires under_way { OneIsUnderWay self.old.operation region.old }
+        ensures writes { WritesNext self.old.operation region.old result self.new.operation region.new }
         ensures rest { self.new ≡ record self.old { operation = self.new.operation } }
     {
         self.back.update(region)
@@ -143,17 +137,11 @@ impl Cleaning {
         region: &mut Region,
         system: &mut System,
     ) -> Result<Receipt, SystemError>
-        requires written { IsSomeAnd self.old.operation (λ o. IsOpen region.old o.txn o.block) }
-        requires claimed { IsSomeAnd (state_of system.old.state self.old.txn) is_claimed }
-        requires last { self.old.next ≡ next_undo (undos_at system.old.state.table self.old.txn) 0 }
+        requires { MayCommit self.old region.old system.old.state }
         ensures ok { OnOk result (IfSome self.old.operation (λ o. (system.new ≡ record system.old { state = back_logged system.old.state self.old.txn o.block }) × (region.new ≡ touched region.old))) }
         ensures claimed { OnOk result (IsSomeAnd (state_of system.new.state self.old.txn) is_claimed) }
         ensures next { OnOk result (self.new ≡ record self.old { next = next_undo (undos_at system.new.state.table self.old.txn) 0; operation = None }) }
-        ensures number { IfOk result (λ receipt. receipt.number ≡ system.old.state.records) }
-        ensures runs { OnOk result (system.old.state.stop ≡ None) }
-        ensures err { OnErr result ((system.new ≡ record system.old { state = in_state system.old.state self.old.txn (Dead None) }) × (region.new ≡ taken_back region.old) × (self.new ≡ record self.old { operation = None; claimed = false })) }
-        ensures refused { IfSome (stop_refusal system.old.state) (λ e. result ≡ Err e) }
-        ensures memory { stop_refusal system.old.state ≡ None → IfErr result (λ e. e ≡ Memory) }
+        ensures receipt { GivesReceipt system.old.state ((system.new ≡ record system.old { state = in_state system.old.state self.old.txn (Dead None) }) × (region.new ≡ taken_back region.old) × (self.new ≡ record self.old { operation = None; claimed = false })) result }
     {
         match self.back.commit(region, system) {
             Ok(receipt) => Ok(receipt),
@@ -171,11 +159,7 @@ impl Cleaning {
         requires done { want_of self ≡ Done }
         requires claimed { IsSomeAnd (state_of system.old.state self.txn) is_claimed }
         ensures ok { OnOk result (system.new ≡ record { state = ended_logged system.old.state self.txn; promised = map.remove system.old.promised self.txn }) }
-        ensures number { IfOk result (λ receipt. receipt.number ≡ system.old.state.records) }
-        ensures runs { OnOk result (system.old.state.stop ≡ None) }
-        ensures err { OnErr result (system.new ≡ record system.old { state = in_state system.old.state self.txn (Dead None) }) }
-        ensures refused { IfSome (stop_refusal system.old.state) (λ e. result ≡ Err e) }
-        ensures memory { stop_refusal system.old.state ≡ None → IfErr result (λ e. e ≡ Memory) }
+        ensures receipt { GivesReceipt system.old.state (system.new ≡ record system.old { state = in_state system.old.state self.txn (Dead None) }) result }
     {
         let txn = self.back.txn();
         let done = system.ended(txn);

@@ -5,6 +5,3 @@ mod cleaning;
 pub mod laws;
 
 pub use cleaning::Cleaning;
-
-#[cfg(test)]
-mod tests;

@@ -12,7 +12,9 @@ use Rattle.std.specs.Map.{lookup}
 use Rattle.std.specs.BTreeMap.{is_at}
 use Rattle.dali_lists.proofs.Tests.{T_left, T_right}
 use Rattle.dali_att.proofs.Maps.{get_entries, inserted}
-use Rattle.dali_core.specs.Promised.{Promised, OwnChanges, OthersStay, of_entries, promised_to, sum_of, total, used}
+use Rattle.dali_core.specs.declared.promises.Uses.{Uses}
+use Rattle.dali_core.specs.declared.promises.Uses.TheVariants.{Nothing, Bytes, All}
+use Rattle.dali_core.specs.Promised.{Promised, OwnChanges, OthersStay, Covers, behind, of_entries, promised_to, sum_of, total, used}
 
 abbrev pub found : Option ℕ → ℕ
 found o = option_map_or (λ n. n) o 0
@@ -85,6 +87,12 @@ total_used m t n = at (get m t) refl
 
 pub part : (m : Promised) (t : ℕ) → promised_to m t ≤ total m
 part m t = omega (arith, total_remove m t)
+
+-- what is behind a record, and what the record may use, are promised now
+pub covered : (m : Promised) (u : Uses) (n : ℕ) → Covers m u n → n + total (behind m u) ≤ total m
+covered m Nothing n c = absurd c
+covered m (Bytes t most) n c = omega (arith, total_used m t most, part m t, c.0, c.1)
+covered m (All t) n c = omega (arith, total_remove m t, c)
 
 -- ---- of one transaction
 insert_own : (m : Promised) (t n : ℕ) → promised_to (insert m t n) t ≡ n

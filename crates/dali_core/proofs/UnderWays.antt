@@ -1,6 +1,6 @@
 -- An operation under way: its start, each of its updates, and its end.
 use Rattle.std.proofs.Common.{◌≡◌, ◌≢◌, ℕ, zero, suc, ◌+◌, ◌-◌, ◌*◌, ◌<◌, ◌^◌, Bool, true, false, not, ◌&&◌, List, [], ◌∷◌, length, drop, get_or, set, Option, Some, None, IsSomeAnd, IsBitSet, refl, sym, ap, subst, ◌∙◌, arith, count_ones, bit_and, bit_or, bit_xor}
-use Rattle.std.specs.Prelude.{◌==◌, if◌then◌else◌, Result, Ok, Err}
+use Rattle.std.specs.Prelude.{◌==◌, if◌then◌else◌, Result, Ok, Err, IfSome}
 use Rattle.std.specs.Int.{bit_at}
 use Rattle.std.specs.Int.Count.{count_trailing_zeros}
 use Rattle.std.specs.Int.Bits.{or_zero_l, or_zero_r, xor_zero_l, xor_self}
@@ -22,10 +22,22 @@ use Rattle.dali_region.specs.declared.LatchError.{LatchError}
 use Rattle.dali_region.specs.declared.LatchError.TheVariants.{Latched, DeadHolder, Damaged}
 use Rattle.dali_region.specs.Answers.{latch_answer}
 use Rattle.dali_region.proofs.Holds.{unheld-same}
-use Rattle.dali_region.proofs.Olds.{write_nothing}
+use Rattle.dali_words.proofs.Writes.{write_nothing}
 use Rattle.dali_system.specs.Regions.{IsOpen}
+use Rattle.dali_core.specs.declared.operation.Operation.{Operation}
+use Rattle.dali_core.specs.declared.take_back.TakeBack.{TakeBack}
+use Rattle.dali_core.specs.TakenBack.{IsUndoBlock}
 use Rattle.dali_core.specs.UnderWay.{IsUnderWay}
 use Rattle.dali_core.proofs.Lowest.{lowest_or, lowest_count, lowest_write}
+
+-- ---- steps of a plan
+-- the operation that makes the next undo of the plan is open on the region, which was g before its latch
+abbrev pub IsMadeBack : TakeBack → RegionState → Option Operation → RegionState → Type 0
+IsMadeBack p g o h = IsSomeAnd o (λ o. (o.txn ≡ p.txn) × IsUndoBlock p.next o.block × IsUnderWay o.txn o.block o.left o.taken h × (h ≡ with_reads o.block.read (latched p.txn g)))
+
+-- and it is the same one behind an update
+abbrev pub IsSameWay : Option Operation → Option Operation → Type 0
+IsSameWay o p = IfSome o (λ o. IsSomeAnd p (λ p. (p.txn ≡ o.txn) × (p.block ≡ o.block)))
 
 -- ---- the start
 whole_mask : (m : ℕ) → m < 2 ^ 64 → bit_and m (2 ^ 64 - 1) ≡ m

@@ -2,7 +2,8 @@
 --     Journaled                the records since the load, how many of them were taken to be flushed, and for how many bytes of records of which
 --                              transaction memory is promised
 --     waiting j                those that aren't taken
---     noted j x                with one record more; noted_from j x t n    and n bytes fewer promised to t; noted_last j x t      and nothing
+--     noted_by j x u           with one record more, which uses u
+--     noted j x                which uses nothing; noted_from j x t n    n of the bytes promised to t; noted_last j x t      all of them
 --     HasMemory n len capacity f       there is memory for n bytes more behind so many bytes, and in the frame
 --     IsKept L f count taken           what is true of every journal
 use Rattle.std.specs.Prelude.{◌≡◌, ℕ, ◌+◌, ◌≤◌, ◌^◌, List, [], ◌∷◌, ◌++◌, length, drop}
@@ -10,7 +11,8 @@ use Rattle.dali_record.specs.declared.records.Record.{Record}
 use Rattle.dali_batch.specs.Log.{body_bytes}
 use Rattle.dali_batch.specs.Batch.{Framed}
 use Rattle.std.specs.FinMap.{remove}
-use Rattle.dali_core.specs.Promised.{Promised, used}
+use Rattle.dali_core.specs.declared.promises.Uses.{Uses}
+use Rattle.dali_core.specs.Promised.{Promised, used, behind}
 
 pub record Journaled : Type 0 where
   pub since : List Record
@@ -19,6 +21,9 @@ pub record Journaled : Type 0 where
 
 abbrev pub waiting : Journaled → List Record
 waiting j = drop j.taken j.since
+
+abbrev pub noted_by : Journaled → Record → Uses → Journaled
+noted_by j x u = record { since = j.since ++ x ∷ []; taken = j.taken; promised = behind j.promised u }
 
 abbrev pub noted_from : Journaled → Record → ℕ → ℕ → Journaled
 noted_from j x t n = record { since = j.since ++ x ∷ []; taken = j.taken; promised = used j.promised t n }

@@ -1,7 +1,9 @@
 pub mod Spelled
 pub mod Promised
 pub mod Journaled
+pub mod Entries
 pub mod Refused
+pub mod Receipts
 pub mod Coded
 pub mod Rows
 pub mod Fields

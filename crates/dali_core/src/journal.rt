@@ -5,11 +5,12 @@ ghost use Rattle.dali_record.specs.Spelling.{CanBeSpelled, spelling};
 ghost use Rattle.dali_store.specs.Faults.{one_more};
 ghost use Rattle.dali_batch.specs.Log.{body_bytes};
 ghost use Rattle.dali_core.specs.Spelled.{Spelled, Spelled-prop};
+ghost use Rattle.dali_core.specs.Entries.{record_of};
 ghost use Rattle.std.specs.FinMap as map;
-ghost use Rattle.dali_core.specs.Promised.{promised_to};
-ghost use Rattle.dali_core.specs.Journaled.{waiting, noted, noted_from, noted_last, HasMemory, IsSmall};
+ghost use Rattle.dali_core.specs.Promised.{promised_to, Covers};
+ghost use Rattle.dali_core.specs.Journaled.{waiting, noted, noted_by, noted_from, noted_last, HasMemory, IsSmall};
 
-use crate::promises::Promises;
+use crate::promises::{Promises, Uses};
 use dali_batch::{Frame, MOST_BYTES};
 use dali_bytes::OutOfMemory;
 use dali_record::{
@@ -53,115 +54,97 @@ impl Model for Journal {
     ghost invariant = { λ j. IsKept j.spelled.0 j.frame j.count j.taken × HasMemory (total j.promises) (vec_len j.bytes) (vec_capacity j.bytes) j.frame };
 }
 
-// Takes memory for so many bytes more, where there isn't; refused too where a batch or all records would have too many.
-fn make_room(bytes: &mut Vec<u8>, frame: &mut Frame, more: usize) -> Result<(), OutOfMemory>
-    ensures ok { OnOk result (HasMemory more (vec_len bytes.new) (vec_capacity bytes.new) frame.new) }
-    ensures room { HasMemory more (vec_len bytes.old) (vec_capacity bytes.old) frame.old → IsOk result }
+// Takes memory for a record of this length and so many bytes more, where there isn't; refused too where a batch or all records
+// would have too many.
+fn make_room(
+    bytes: &mut Vec<u8>,
+    frame: &mut Frame,
+    size: usize,
+    more: usize,
+) -> Result<(), OutOfMemory>
+    ensures ok { OnOk result (HasMemory (size + more) (vec_len bytes.new) (vec_capacity bytes.new) frame.new) }
+    ensures room { HasMemory (size + more) (vec_len bytes.old) (vec_capacity bytes.old) frame.old → IsOk result }
     ensures same { (bytes.new.items ≡ bytes.old.items) × (vec_len bytes.new ≡ vec_len bytes.old) × (frame.new.body ≡ frame.old.body) × (frame.new.records ≡ frame.old.records) }
     ensures kept { (vec_capacity bytes.old ≤ vec_capacity bytes.new) × (frame.old.room ≤ frame.new.room) }
 {
-    if more > MOST_BYTES as usize - frame.len() {
+    let room = size.checked_add(more).ok_or(OutOfMemory)?;
+    if room > MOST_BYTES as usize - frame.len() {
         return Err(OutOfMemory);
     }
-    match bytes.len().checked_add(more) {
+    match bytes.len().checked_add(room) {
         Some(all) if all <= MOST_KEPT => {}
         _ => return Err(OutOfMemory),
     }
-    bytes.reserve(more)?;
-    frame.reserve(more)?;
+    bytes.reserve(room)?;
+    frame.reserve(room)?;
     Ok(())
+}
+
+// A record that is to be written, or the parts of an operation's record: its block is borrowed, and isn't copied into a record
+// first.
+#[derive(Clone, Copy)]
+enum Entry<'a> {
+    Whole(&'a Record),
+    Op {
+        txn: u64,
+        block: &'a Block,
+    },
+    Back {
+        txn: u64,
+        block: &'a Block,
+    },
+    Solo {
+        txn: u64,
+        parent: u64,
+        block: &'a Block,
+    },
+}
+
+// How many bytes its spelling has.
+fn size_of(given: Entry<'_>) -> u64
+    requires { CanBeSpelled (record_of given) }
+    ensures { result ≡ length (spelling (record_of given.entry)) }
+{
+    match given {
+        Entry::Whole(rec) => length(rec),
+        Entry::Op { txn, block } => op_record_length(txn, block),
+        Entry::Back { txn, block } => op_record_length(txn, block),
+        Entry::Solo { block, .. } => solo_record_length(block),
+    }
+}
+
+// Appends its spelling. No memory is wanted where there is room.
+fn append(given: Entry<'_>, into: &mut Vec<u8>) -> Result<(), OutOfMemory>
+    requires { CanBeSpelled (record_of given) }
+    ensures ok { OnOk result (into.new.items ≡ into.old.items ++ spelling (record_of given.entry)) }
+    ensures room { vec_len into.old + length (spelling (record_of given.entry)) ≤ vec_capacity into.old → IsOk result }
+    ensures capacity { vec_capacity into.old ≤ vec_capacity into.new }
+{
+    match given {
+        Entry::Whole(rec) => encode(rec, into),
+        Entry::Op { txn, block } => encode_op(txn, block, into),
+        Entry::Back { txn, block } => encode_back(txn, block, into),
+        Entry::Solo { txn, parent, block } => encode_solo(txn, parent, block, into),
+    }
 }
 
 // Writes a record's spelling behind the bytes, and into the frame, and leaves memory for so many bytes more.
 fn write(
     bytes: &mut Vec<u8>,
     frame: &mut Frame,
-    rec: &Record,
+    given: Entry<'_>,
     more: usize,
 ) -> Result<(), OutOfMemory>
-    requires { CanBeSpelled rec.now }
-    ensures ok { OnOk result ((bytes.new.items ≡ bytes.old.items ++ spelling rec.now) × (frame.new.body ≡ frame.old.body ++ spelling rec.now) × HasMemory more (vec_len bytes.new) (vec_capacity bytes.new) frame.new) }
-    ensures room { HasMemory (length (spelling rec.now) + more) (vec_len bytes.old) (vec_capacity bytes.old) frame.old → IsOk result }
+    requires { CanBeSpelled (record_of given) }
+    ensures ok { OnOk result ((bytes.new.items ≡ bytes.old.items ++ spelling (record_of given.entry)) × (frame.new.body ≡ frame.old.body ++ spelling (record_of given.entry)) × HasMemory more (vec_len bytes.new) (vec_capacity bytes.new) frame.new) }
+    ensures room { HasMemory (length (spelling (record_of given.entry)) + more) (vec_len bytes.old) (vec_capacity bytes.old) frame.old → IsOk result }
     ensures err { OnErr result ((bytes.new.items ≡ bytes.old.items) × (vec_len bytes.new ≡ vec_len bytes.old) × (frame.new.body ≡ frame.old.body) × (frame.new.records ≡ frame.old.records)) }
     ensures records { OnOk result (frame.new.records ≡ one_more frame.old.records) }
     ensures kept { OnErr result ((vec_capacity bytes.old ≤ vec_capacity bytes.new) × (frame.old.room ≤ frame.new.room)) }
 {
     let from = bytes.len();
-    let all = (length(rec) as usize).checked_add(more).ok_or(OutOfMemory)?;
-    make_room(bytes, frame, all)?;
-    encode(rec, bytes).unwrap();
-    frame.add(&bytes[from..]).unwrap();
-    Ok(())
-}
-
-// The same for an operation, whose block is borrowed.
-fn write_op(
-    bytes: &mut Vec<u8>,
-    frame: &mut Frame,
-    txn: u64,
-    block: &Block,
-    more: usize,
-) -> Result<(), OutOfMemory>
-    requires { CanBeSpelled (Forward txn block.now) }
-    ensures ok { OnOk result ((bytes.new.items ≡ bytes.old.items ++ spelling (Forward txn block.now)) × (frame.new.body ≡ frame.old.body ++ spelling (Forward txn block.now)) × HasMemory more (vec_len bytes.new) (vec_capacity bytes.new) frame.new) }
-    ensures err { OnErr result ((bytes.new.items ≡ bytes.old.items) × (vec_len bytes.new ≡ vec_len bytes.old) × (frame.new.body ≡ frame.old.body) × (frame.new.records ≡ frame.old.records)) }
-    ensures records { OnOk result (frame.new.records ≡ one_more frame.old.records) }
-    ensures kept { OnErr result ((vec_capacity bytes.old ≤ vec_capacity bytes.new) × (frame.old.room ≤ frame.new.room)) }
-{
-    let from = bytes.len();
-    let all = (op_record_length(txn, block) as usize)
-        .checked_add(more)
-        .ok_or(OutOfMemory)?;
-    make_room(bytes, frame, all)?;
-    encode_op(txn, block, bytes).unwrap();
-    frame.add(&bytes[from..]).unwrap();
-    Ok(())
-}
-
-fn write_back(
-    bytes: &mut Vec<u8>,
-    frame: &mut Frame,
-    txn: u64,
-    block: &Block,
-    more: usize,
-) -> Result<(), OutOfMemory>
-    requires { CanBeSpelled (Back txn block.now) }
-    ensures ok { OnOk result ((bytes.new.items ≡ bytes.old.items ++ spelling (Back txn block.now)) × (frame.new.body ≡ frame.old.body ++ spelling (Back txn block.now)) × HasMemory more (vec_len bytes.new) (vec_capacity bytes.new) frame.new) }
-    ensures err { OnErr result ((bytes.new.items ≡ bytes.old.items) × (vec_len bytes.new ≡ vec_len bytes.old) × (frame.new.body ≡ frame.old.body) × (frame.new.records ≡ frame.old.records)) }
-    ensures records { OnOk result (frame.new.records ≡ one_more frame.old.records) }
-    ensures kept { OnErr result ((vec_capacity bytes.old ≤ vec_capacity bytes.new) × (frame.old.room ≤ frame.new.room)) }
-{
-    let from = bytes.len();
-    let all = (op_record_length(txn, block) as usize)
-        .checked_add(more)
-        .ok_or(OutOfMemory)?;
-    make_room(bytes, frame, all)?;
-    encode_back(txn, block, bytes).unwrap();
-    frame.add(&bytes[from..]).unwrap();
-    Ok(())
-}
-
-fn write_solo(
-    bytes: &mut Vec<u8>,
-    frame: &mut Frame,
-    txn: u64,
-    parent: u64,
-    block: &Block,
-    more: usize,
-) -> Result<(), OutOfMemory>
-    requires { CanBeSpelled (Solo txn parent block.now) }
-    ensures ok { OnOk result ((bytes.new.items ≡ bytes.old.items ++ spelling (Solo txn parent block.now)) × (frame.new.body ≡ frame.old.body ++ spelling (Solo txn parent block.now)) × HasMemory more (vec_len bytes.new) (vec_capacity bytes.new) frame.new) }
-    ensures room { HasMemory (length (spelling (Solo txn parent block.now)) + more) (vec_len bytes.old) (vec_capacity bytes.old) frame.old → IsOk result }
-    ensures err { OnErr result ((bytes.new.items ≡ bytes.old.items) × (vec_len bytes.new ≡ vec_len bytes.old) × (frame.new.body ≡ frame.old.body) × (frame.new.records ≡ frame.old.records)) }
-    ensures records { OnOk result (frame.new.records ≡ one_more frame.old.records) }
-    ensures kept { OnErr result ((vec_capacity bytes.old ≤ vec_capacity bytes.new) × (frame.old.room ≤ frame.new.room)) }
-{
-    let from = bytes.len();
-    let all = (solo_record_length(block) as usize)
-        .checked_add(more)
-        .ok_or(OutOfMemory)?;
-    make_room(bytes, frame, all)?;
-    encode_solo(txn, parent, block, bytes).unwrap();
+    make_room(bytes, frame, size_of(given) as usize, more)?;
+    append(given, bytes).unwrap();
     frame.add(&bytes[from..]).unwrap();
     Ok(())
 }
@@ -232,8 +215,24 @@ impl Journal {
         ensures err { OnErr result (self.new ≡ self.old) }
     {
         let all = self.promises.all_with(txn, bytes)?;
-        make_room(&mut self.bytes, &mut self.frame, all)?;
+        make_room(&mut self.bytes, &mut self.frame, 0, all)?;
         self.promises.set(txn, bytes)?;
+        Ok(())
+    }
+
+    // One record more, which uses so much of what is promised: where that is enough it takes no memory. Unchanged where
+    // memory is refused.
+    fn add(&mut self, given: Entry<'_>, uses: Uses) -> Result<(), OutOfMemory>
+        requires { CanBeSpelled (record_of given) }
+        ensures ok { OnOk result (self.new ≡ noted_by self.old (record_of given.entry) uses) }
+        ensures enough { Covers self.old.promised uses (length (spelling (record_of given.entry))) → IsOk result }
+        ensures err { OnErr result (self.new ≡ self.old) }
+        ensures small { IsSmall self.new }
+    {
+        let promised = self.promises.all_behind(uses);
+        write(&mut self.bytes, &mut self.frame, given, promised)?;
+        self.count += 1;
+        self.promises.use_up(uses);
         Ok(())
     }
 
@@ -244,10 +243,7 @@ impl Journal {
         ensures err { OnErr result (self.new ≡ self.old) }
         ensures small { IsSmall self.new }
     {
-        let promised = self.promises.all();
-        write(&mut self.bytes, &mut self.frame, rec, promised)?;
-        self.count += 1;
-        Ok(())
+        self.add(Entry::Whole(rec), Uses::Nothing)
     }
 
     /// One record more, which uses up so many of the bytes that are promised to the transaction. Where these are enough
@@ -259,11 +255,7 @@ impl Journal {
         ensures err { OnErr result (self.new ≡ self.old) }
         ensures small { IsSmall self.new }
     {
-        let promised = self.promises.all_but(txn, from);
-        write(&mut self.bytes, &mut self.frame, rec, promised)?;
-        self.count += 1;
-        self.promises.spend(txn, from);
-        Ok(())
+        self.add(Entry::Whole(rec), Uses::Bytes { txn, bytes: from })
     }
 
     /// The last record of a transaction, which is promised nothing then.
@@ -274,11 +266,7 @@ impl Journal {
         ensures err { OnErr result (self.new ≡ self.old) }
         ensures small { IsSmall self.new }
     {
-        let promised = self.promises.all_but(txn, usize::MAX);
-        write(&mut self.bytes, &mut self.frame, rec, promised)?;
-        self.count += 1;
-        self.promises.end(txn);
-        Ok(())
+        self.add(Entry::Whole(rec), Uses::All { txn })
     }
 
     /// The record of an operation, whose block is borrowed and encoded once. What is promised stays so.
@@ -288,10 +276,7 @@ impl Journal {
         ensures err { OnErr result (self.new ≡ self.old) }
         ensures small { IsSmall self.new }
     {
-        let promised = self.promises.all();
-        write_op(&mut self.bytes, &mut self.frame, txn, block, promised)?;
-        self.count += 1;
-        Ok(())
+        self.add(Entry::Op { txn, block }, Uses::Nothing)
     }
 
     /// The same for an operation that takes back.
@@ -301,10 +286,7 @@ impl Journal {
         ensures err { OnErr result (self.new ≡ self.old) }
         ensures small { IsSmall self.new }
     {
-        let promised = self.promises.all();
-        write_back(&mut self.bytes, &mut self.frame, txn, block, promised)?;
-        self.count += 1;
-        Ok(())
+        self.add(Entry::Back { txn, block }, Uses::Nothing)
     }
 
     /// The same for the operation of a solo, which uses up so many of the bytes that are promised to its parent.
@@ -321,17 +303,10 @@ impl Journal {
         ensures err { OnErr result (self.new ≡ self.old) }
         ensures small { IsSmall self.new }
     {
-        let promised = self.promises.all_but(parent, from);
-        write_solo(
-            &mut self.bytes,
-            &mut self.frame,
-            txn,
-            parent,
-            block,
-            promised,
-        )?;
-        self.count += 1;
-        self.promises.spend(parent, from);
-        Ok(())
+        let uses = Uses::Bytes {
+            txn: parent,
+            bytes: from,
+        };
+        self.add(Entry::Solo { txn, parent, block }, uses)
     }
 }

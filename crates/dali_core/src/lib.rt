@@ -17,6 +17,3 @@ pub use operation::{OpenOperation, Operation};
 pub use system::System;
 pub use take_back::TakeBack;
 pub use want::Want;
-
-#[cfg(test)]
-mod tests;

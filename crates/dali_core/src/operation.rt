@@ -5,7 +5,7 @@ ghost use Rattle.dali_record.specs.Blocks.{made};
 ghost use Rattle.dali_region.specs.State.{latched, with_reads};
 ghost use Rattle.dali_region.specs.Answers.{latch_answer};
 ghost use Rattle.dali_system.specs.Regions.{IsOpen};
-ghost use Rattle.dali_core.specs.UnderWay.{IsUpdated, IsUnderWay};
+ghost use Rattle.dali_core.specs.UnderWay.{IsUpdated, IsUnderWay, OneIsUnderWay, WritesNext};
 
 use dali_record::{Block, Op};
 use dali_region::{LatchError, Region};
@@ -40,9 +40,9 @@ impl Operation {
         ensures made { IfOk result (λ o. (o.block ≡ made region.old.words key number op) × IsBlock o.block × (o.txn ≡ txn)) }
         ensures under_way { IfOk result (λ o. IsUnderWay txn o.block o.left o.taken region.new) }
     {
-        let mut operation = Operation::blank();
-        match operation.start_here(region, number, txn, key, op, precheck) {
-            Ok(()) => Ok(operation),
+        let mut open = OpenOperation::none();
+        match open.start(region, number, txn, key, op, precheck) {
+            Ok(()) => Ok(open.operation),
             Err(error) => Err(error),
         }
     }
@@ -57,32 +57,6 @@ impl Operation {
             left: 0,
             taken: 0,
         }
-    }
-
-    // Starts an operation in place of this one, as `start` does.
-    fn start_here(
-        &mut self,
-        region: &mut Region,
-        number: u32,
-        txn: u64,
-        key: u64,
-        op: Op,
-        precheck: bool,
-    ) -> Result<(), LatchError>
-        requires { IsOperation op }
-        ensures refused { IfErr result (λ e. (latch_answer precheck region.old ≡ Err e) × (region.new ≡ region.old) × (self.new ≡ self.old)) }
-        ensures latched { OnOk result ((latch_answer precheck region.old ≡ Ok tt) × (region.new ≡ with_reads self.new.block.read (latched txn region.old))) }
-        ensures checked { precheck ≡ true → OnOk result (region.old.stray ≡ 0) }
-        ensures made { OnOk result ((self.new.block ≡ made region.old.words key number op) × IsBlock self.new.block × (self.new.txn ≡ txn)) }
-        ensures under_way { OnOk result (IsUnderWay txn self.new.block self.new.left self.new.taken region.new) }
-    {
-        region.latch(txn, precheck)?;
-        self.block.make(op, key, number, region.words());
-        region.note_reads(self.block.read);
-        self.txn = txn;
-        self.left = self.block.write;
-        self.taken = 0;
-        Ok(())
     }
 
     /// Its transaction.
@@ -183,20 +157,20 @@ impl OpenOperation {
         ensures made { OnOk result (IsSomeAnd self.new (λ o. (o.block ≡ made region.old.words key number op) × IsBlock o.block × (o.txn ≡ txn))) }
         ensures under_way { OnOk result (IsSomeAnd self.new (λ o. IsUnderWay txn o.block o.left o.taken region.new)) }
     {
-        self.operation
-            .start_here(region, number, txn, key, op, precheck)?;
+        region.latch(txn, precheck)?;
+        self.operation.block.make(op, key, number, region.words());
+        region.note_reads(self.operation.block.read);
+        self.operation.txn = txn;
+        self.operation.left = self.operation.block.write;
+        self.operation.taken = 0;
         self.is_open = true;
         Ok(())
     }
 
     /// Writes the next word, as `Operation::update` does.
     pub fn update(&mut self, region: &mut Region) -> bool
-        requires { IsSomeAnd self.old (λ o. IsUnderWay o.txn o.block o.left o.taken region.old) }
-        ensures some { IfSome self.old (λ o. result ≡ not (o.left == 0)) }
-        ensures same { IfSome self.old (λ o. IsSomeAnd self.new (λ p. (p.txn ≡ o.txn) × (p.block ≡ o.block))) }
-        ensures under_way { IsSomeAnd self.new (λ o. IsUnderWay o.txn o.block o.left o.taken region.new) }
-        ensures step { result ≡ true → IfSome self.old (λ o. IsSomeAnd self.new (λ p. p.taken ≡ o.taken + 1)) × IsUpdated region.old region.new }
-        ensures none { result ≡ false → (region.new ≡ region.old) × (self.new ≡ self.old) × IsSomeAnd self.new (λ o. IsOpen region.new o.txn o.block) }
+        requires { OneIsUnderWay self.old region.old }
+        ensures { WritesNext self.old region.old result self.new region.new }
     {
         self.operation.update(region)
     }

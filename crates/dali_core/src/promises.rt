@@ -1,12 +1,23 @@
 //! Memory that is promised, by transaction.
 ghost use Rattle.std.specs.Prelude.{◌≡◌, ◌≤◌, ◌+◌, ◌<◌, ◌^◌, ℕ, OnOk, OnErr, IfOk};
 ghost use Rattle.std.specs.FinMap as map;
-ghost use Rattle.dali_core.specs.Promised.{of_entries, promised_to, total, used};
+ghost use Rattle.dali_core.specs.Promised.{behind, of_entries, promised_to, total, used};
 
 use dali_bytes::OutOfMemory;
 use std::alloc::{AllocError, Global};
 use std::collections::BTreeMap;
 use std::marker::Model;
+
+/// What a record uses up of what is promised.
+#[derive(Clone, Copy)]
+pub enum Uses {
+    /// Nothing.
+    Nothing,
+    /// So many of the bytes that are promised to a transaction.
+    Bytes { txn: u64, bytes: usize },
+    /// All that is promised to a transaction.
+    All { txn: u64 },
+}
 
 /// For how many bytes of records of each transaction there is memory, and their sum.
 #[derive(Drop)]
@@ -92,11 +103,29 @@ impl Promises {
 
     /// The sum where the transaction has used so many.
     pub fn all_but(&self, txn: u64, by: usize) -> usize
-        ensures left { result ≡ total (used self.now txn by) }
-        ensures enough { (n : ℕ) → n ≤ by → n ≤ promised_to self.now txn → n + result ≤ total self.now }
+        ensures { result ≡ total (used self.now txn by) }
     {
         let to = self.to(txn);
         self.all - to + to.saturating_sub(by)
+    }
+
+    /// The sum where the transaction is promised nothing.
+    pub fn all_without(&self, txn: u64) -> usize
+        ensures { result ≡ total (map.remove self.now txn) }
+    {
+        let to = self.to(txn);
+        self.all - to
+    }
+
+    /// The sum behind a record that uses so much.
+    pub fn all_behind(&self, uses: Uses) -> usize
+        ensures { result ≡ total (behind self.now uses) }
+    {
+        match uses {
+            Uses::Nothing => self.all(),
+            Uses::Bytes { txn, bytes } => self.all_but(txn, bytes),
+            Uses::All { txn } => self.all_without(txn),
+        }
     }
 
     /// Promises so many bytes, in place of what was promised. Unchanged where memory is refused.
@@ -121,8 +150,19 @@ impl Promises {
     pub fn end(&mut self, txn: u64)
         ensures { self.new ≡ map.remove self.old txn }
     {
-        let all = self.all - self.to(txn);
+        let all = self.all_without(txn);
         take(&mut self.each, txn);
         self.all = all;
+    }
+
+    /// A record that uses so much was logged.
+    pub fn use_up(&mut self, uses: Uses)
+        ensures { self.new ≡ behind self.old uses }
+    {
+        match uses {
+            Uses::Nothing => {}
+            Uses::Bytes { txn, bytes } => self.spend(txn, bytes),
+            Uses::All { txn } => self.end(txn),
+        }
     }
 }

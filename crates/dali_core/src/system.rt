@@ -15,6 +15,7 @@ ghost use Rattle.dali_system.specs.Steps.{begun, op_logged, back_logged, solo_lo
 ghost use Rattle.dali_system.specs.Keeps.{HasRoom, moves_to};
 ghost use Rattle.dali_system.specs.Regions.{IsOpen};
 ghost use Rattle.dali_core.specs.Refused.{refusal, stop_refusal, room_of, stop_of};
+ghost use Rattle.dali_core.specs.Receipts.{GivesReceipt};
 ghost use Rattle.dali_core.specs.Rows.{AreRows};
 ghost use Rattle.dali_core.specs.Served.{solo_room};
 ghost use Rattle.std.specs.FinMap as map;
@@ -294,11 +295,7 @@ impl System {
         requires spelled { CanBeSpelled (Back txn block.now) }
         requires open { IsOpen region.old txn block.now }
         ensures ok { OnOk result ((self.new ≡ record self.old { state = back_logged self.old.state txn block.now }) × (region.new ≡ touched region.old)) }
-        ensures number { IfOk result (λ receipt. receipt.number ≡ self.old.state.records) }
-        ensures runs { OnOk result (self.old.state.stop ≡ None) }
-        ensures err { OnErr result ((self.new ≡ self.old) × (region.new ≡ region.old)) }
-        ensures refused { IfSome (stop_refusal self.old.state) (λ e. result ≡ Err e) }
-        ensures memory { stop_refusal self.old.state ≡ None → IfErr result (λ e. e ≡ Memory) }
+        ensures receipt { GivesReceipt self.old.state ((self.new ≡ self.old) × (region.new ≡ region.old)) result }
     {
         running(self.stop)?;
         let number = self.records();
@@ -321,11 +318,7 @@ impl System {
         requires open { IsOpen region.old parent block.now }
         ensures ok { OnOk result ((self.new ≡ record { state = solo_logged self.old.state parent block.now; promised = used self.old.promised parent solo_room }) × (region.new ≡ touched region.old)) }
         ensures promised { stop_refusal self.old.state ≡ None → solo_room ≤ promised_to self.old.promised parent → IsOk result }
-        ensures number { IfOk result (λ receipt. receipt.number ≡ self.old.state.records) }
-        ensures runs { OnOk result (self.old.state.stop ≡ None) }
-        ensures err { OnErr result ((self.new ≡ self.old) × (region.new ≡ region.old)) }
-        ensures refused { IfSome (stop_refusal self.old.state) (λ e. result ≡ Err e) }
-        ensures memory { stop_refusal self.old.state ≡ None → IfErr result (λ e. e ≡ Memory) }
+        ensures receipt { GivesReceipt self.old.state ((self.new ≡ self.old) × (region.new ≡ region.old)) result }
     {
         running(self.stop)?;
         let number = self.records();
@@ -416,11 +409,7 @@ impl System {
         requires running { IsSome (row_of self.old.state txn) }
         ensures ok { OnOk result (self.new ≡ record { state = commit_logged self.old.state txn; promised = used self.old.promised txn 9 }) }
         ensures promised { stop_refusal self.old.state ≡ None → 9 ≤ promised_to self.old.promised txn → IsOk result }
-        ensures number { IfOk result (λ receipt. receipt.number ≡ self.old.state.records) }
-        ensures runs { OnOk result (self.old.state.stop ≡ None) }
-        ensures err { OnErr result (self.new ≡ self.old) }
-        ensures refused { IfSome (stop_refusal self.old.state) (λ e. result ≡ Err e) }
-        ensures memory { stop_refusal self.old.state ≡ None → IfErr result (λ e. e ≡ Memory) }
+        ensures receipt { GivesReceipt self.old.state (self.new ≡ self.old) result }
     {
         running(self.stop)?;
         let number = self.records();
@@ -437,11 +426,7 @@ impl System {
     pub fn ended(&mut self, txn: u64) -> Result<Receipt, SystemError>
         ensures ok { OnOk result (self.new ≡ record { state = ended_logged self.old.state txn; promised = map.remove self.old.promised txn }) }
         ensures promised { stop_refusal self.old.state ≡ None → 9 ≤ promised_to self.old.promised txn → IsOk result }
-        ensures number { IfOk result (λ receipt. receipt.number ≡ self.old.state.records) }
-        ensures runs { OnOk result (self.old.state.stop ≡ None) }
-        ensures err { OnErr result (self.new ≡ self.old) }
-        ensures refused { IfSome (stop_refusal self.old.state) (λ e. result ≡ Err e) }
-        ensures memory { stop_refusal self.old.state ≡ None → IfErr result (λ e. e ≡ Memory) }
+        ensures receipt { GivesReceipt self.old.state (self.new ≡ self.old) result }
     {
         running(self.stop)?;
         let number = self.records();

@@ -1,15 +1,14 @@
 //! The plan that takes a transaction back.
-ghost use Rattle.std.specs.Prelude.{◌≡◌, ◌+◌, not, ◌==◌, true, false, Some, None, Ok, Err, OnOk, OnErr, IfOk, IfErr, IfSome, IsSome, IsSomeAnd};
+ghost use Rattle.std.specs.Prelude.{◌≡◌, None, OnOk, OnErr, IfSome, IsSomeAnd};
 ghost use Rattle.dali_record.specs.Spelling.{IsUndo};
 ghost use Rattle.dali_region.specs.State.{latched, with_reads, touched, taken_back};
 ghost use Rattle.dali_region.specs.Answers.{latch_answer};
 ghost use Rattle.dali_att.specs.Table.{undos_at};
 ghost use Rattle.dali_system.specs.Steps.{back_logged};
 ghost use Rattle.dali_system.specs.Regions.{IsOpen};
-ghost use Rattle.dali_core.specs.Refused.{stop_refusal};
+ghost use Rattle.dali_core.specs.Receipts.{GivesReceipt};
 ghost use Rattle.dali_core.specs.TakenBack.{next_undo, want_of, IsUndoBlock, IsUndoOn};
-ghost use Rattle.dali_core.specs.UnderWay.{IsUpdated, IsUnderWay};
-ghost use Rattle.dali_core.specs.declared.error.SystemError.TheVariants.{OutOfMemory as Memory};
+ghost use Rattle.dali_core.specs.UnderWay.{IsUnderWay, OneIsUnderWay, WritesNext};
 
 use crate::error::SystemError;
 use crate::operation::Operation;
@@ -105,12 +104,8 @@ impl TakeBack {
 
     /// Writes the next word of the open operation; false exactly where none is left.
     pub fn update(&mut self, region: &mut Region) -> bool
-        requires under_way { IsSomeAnd self.old.operation (λ o. IsUnderWay o.txn o.block o.left o.taken region.old) }
-        ensures under_way { IsSomeAnd self.new.operation (λ o. IsUnderWay o.txn o.block o.left o.taken region.new) }
-        ensures same { IfSome self.old.operation (λ o. IsSomeAnd self.new.operation (λ p. (p.txn ≡ o.txn) × (p.block ≡ o.block))) }
-        ensures some { IfSome self.old.operation (λ o. result ≡ not (o.left == 0)) }
-        ensures step { result ≡ true → IfSome self.old.operation (λ o. IsSomeAnd self.new.operation (λ p. p.taken ≡ o.taken + 1)) × IsUpdated region.old region.new }
-        ensures none { result ≡ false → (region.new ≡ region.old) × (self.new ≡ self.old) × IsSomeAnd self.new.operation (λ o. IsOpen region.new o.txn o.block) }
+        requires under_way { OneIsUnderWay self.old.operation region.old }
+        ensures writes { WritesNext self.old.operation region.old result self.new.operation region.new }
         ensures rest { self.new ≡ record self.old { operation = self.new.operation } }
     {
         let Some(operation) = &mut self.operation else {
@@ -130,11 +125,7 @@ impl TakeBack {
         ensures ok { OnOk result (IfSome self.old.operation (λ o. (system.new ≡ record system.old { state = back_logged system.old.state self.old.txn o.block }) × (region.new ≡ touched region.old))) }
         ensures next { OnOk result (self.new ≡ record self.old { next = next_undo (undos_at system.new.state.table self.old.txn) self.old.down_to; operation = None }) }
         ensures undoes { OnOk result (IfSome self.new.next (λ u. IsUndo u.undo)) }
-        ensures number { IfOk result (λ receipt. receipt.number ≡ system.old.state.records) }
-        ensures runs { OnOk result (system.old.state.stop ≡ None) }
-        ensures err { OnErr result ((system.new ≡ system.old) × (region.new ≡ taken_back region.old) × (self.new ≡ record self.old { operation = None })) }
-        ensures refused { IfSome (stop_refusal system.old.state) (λ e. result ≡ Err e) }
-        ensures memory { stop_refusal system.old.state ≡ None → IfErr result (λ e. e ≡ Memory) }
+        ensures receipt { GivesReceipt system.old.state ((system.new ≡ system.old) × (region.new ≡ taken_back region.old) × (self.new ≡ record self.old { operation = None })) result }
     {
         let Some(operation) = &self.operation else {
             unreachable!()

@@ -2,14 +2,17 @@
 use Rattle.std.proofs.Common.{◌≡◌, ℕ, Bool, false, ◌||◌, List, [], ◌∷◌, ◌++◌, Option, Some, None, IsSomeAnd, refl, ap, sym, subst, ◌∙◌, slice_get}
 use Rattle.std.specs.List.{list_any}
 use Rattle.dali_record.specs.declared.records.Record.{Record}
+use Rattle.dali_record.specs.declared.records.Record.TheVariants.{Ended}
 use Rattle.dali_region.specs.State.{RegionState}
 use Rattle.dali_system.specs.State.{CoreState}
 use Rattle.dali_system.specs.Passes.{Audits}
 use Rattle.dali_system.specs.Regions.{RegionStep, Poke}
-use Rattle.dali_system.specs.Courses.{Step, Operates, TakesBack, Frees, Answers, Commits, Ends, Locks, OnRegion, AuditsBy, IsStep}
+use Rattle.dali_system.specs.Courses.{Step, Answers, Ends, AuditBegins, AuditEnds, OnRegion, Passes, AuditsBy, IsStep}
 use Rattle.dali_crash.specs.Unpoked.{is_poke, pokes}
 use Rattle.dali_calls.specs.Operating.{IsOwn}
 use Rattle.dali_single.specs.Single.{IsOwnStep, Leads}
+use Rattle.dali_single.specs.Ending.{IsBackOf, HasEnded}
+use Rattle.dali_single.specs.Settling.{IsSoloOf}
 use Rattle.dali_courses.specs.Alone.{moment, Makes, OwnStepsAreACourse, AnswerEndsACourse, AbortEndsACourse, SettlingEndsACourse}
 
 own_change : (t : ℕ) (x : RegionStep) (g : RegionState) → IsOwn t x g → is_poke x ≡ false
@@ -21,15 +24,11 @@ own_change_at t x None own = absurd own
 own_change_at t x (Some g) own = own_change t x g own
 
 own_step : (precheck : Bool) (t : ℕ) (L : List Record) (c : CoreState) (x : Step) (a : Audits) → IsOwnStep precheck t c x → AuditsBy a a L c x × (pokes x ≡ false)
-own_step precheck t L c (Operates u b) a own = (refl, refl)
-own_step precheck t L c (TakesBack u b) a own = (refl, refl)
-own_step precheck t L c (Frees p b) a own = (refl, refl)
-own_step precheck t L c (Answers u k e) a own = (refl, refl)
-own_step precheck t L c (Commits u) a own = (refl, refl)
-own_step precheck t L c (Ends u) a own = (refl, refl)
-own_step precheck t L c (Locks u k m) a own = (refl, refl)
 own_step precheck t L c (OnRegion r x) a own = (refl, own_change_at t x (slice_get c.regions r) own)
-own_step precheck t L c _ a own = absurd own
+own_step precheck t L c AuditBegins a own = absurd own
+own_step precheck t L c (AuditEnds b found) a own = absurd own
+own_step precheck t L c (Passes b r) a own = absurd own
+own_step precheck t L c _ a own = (refl, refl)
 
 -- these steps, and one more
 makes_on : (precheck : Bool) (t : ℕ) (L K M : List Record) (c e d : CoreState) (xs : List Step) (x : Step) (a : Audits) → Leads precheck t L c xs K e → IsStep K e x M d → AuditsBy a a K e x → pokes x ≡ false
@@ -53,8 +52,11 @@ own_steps_make precheck t L M c d (y ∷ xs) a leads =
 pub answer_makes : AnswerEndsACourse
 answer_makes precheck L c d t call told a e = makes_on precheck t L e.log _ c e.mid d e.steps (Answers t call told) a e.leads e.answers refl refl
 
+pub end_makes : (own : Record → Type 0) (L : List Record) (c d : CoreState) (t : ℕ) (a : Audits) (e : HasEnded own L c t d) → Makes (moment L c a) (e.steps ++ Ends t ∷ []) (moment (e.log ++ Ended t ∷ []) d a)
+end_makes own L c d t a e = makes_on false t L e.log _ c e.mid d e.steps (Ends t) a e.leads e.ends refl refl
+
 pub abort_makes : AbortEndsACourse
-abort_makes L c d t a e = makes_on false t L e.log _ c e.mid d e.steps (Ends t) a e.leads e.ends refl refl
+abort_makes L c d t a e = end_makes (IsBackOf t) L c d t a e
 
 pub settling_makes : SettlingEndsACourse
-settling_makes L c d t a e = makes_on false t L e.log _ c e.mid d e.steps (Ends t) a e.leads e.ends refl refl
+settling_makes L c d t a e = end_makes (IsSoloOf t) L c d t a e

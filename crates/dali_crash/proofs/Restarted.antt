@@ -43,8 +43,7 @@ use Rattle.dali_crash.specs.StoreRuns.{CrashIsRightWith}
 use Rattle.dali_crash.specs.Worked.{look}
 use Rattle.dali_crash.specs.Checkpointed.{checkpoint_steps, moved_files, txn_batch, batches_2}
 use Rattle.dali_crash.specs.Restarted.{closed_log, restarted_log, restarted_vault, put, add, put_writes, add_writes, insert_batch, inserts, WorkedRestart, restarted_files, restarted_from}
-use Rattle.dali_crash.proofs.Starts.{lawful}
-use Rattle.dali_crash.proofs.Starts.{restart_starts}
+use Rattle.dali_crash.proofs.Starts.{lawful, stands_before, restart_starts}
 use Rattle.dali_crash.proofs.Checkpointed.{m6, files_2, to_flush, right}
 use Rattle.dali_crash.specs.Traces.{IsFreshImage, StartsAt, start_point}
 use Rattle.dali_crash.proofs.Traces.{fresh_rests, unpoked_trace_is_right, does_traced}
@@ -61,24 +60,7 @@ unfolding entries cells
 is_recovered = refl
 
 files : IsRestarted restarted_log restarted_files
-files = record {
-  closed = closed_log;
-  rolled = [];
-  deleted = [];
-  log = refl;
-  some = (Begin 1, Commit 1 ∷ Ended 1 ∷ [], refl);
-  older = batches_2;
-  batches = refl;
-  spell = refl;
-  gates = omega arith;
-  number = refl;
-  place = refl;
-  first = refl;
-  weight = refl;
-  next = refl;
-  image = sym is_recovered;
-  table = refl;
-}
+files = stands_before closed_log [] [] batches_2 1 (formatted_image small) (Begin 1, Commit 1 ∷ Ended 1 ∷ [], refl) refl (omega arith) (sym is_recovered)
 
 fresh : IsFreshImage restarted_log restarted_vault restarted_files
 fresh = record {

@@ -75,6 +75,44 @@ formatted_fits s bases missed F is base whole = record {
     one (suc j) b h e = absurd (cc)
 
 -- ---- after a restart
+-- files whose image stands right before the batch of the restart's record
+abbrev pub files_before : List (List Record) → List Record → Record → ℕ → List (List ℕ) → Files
+files_before older closed last gates image = record {
+  batches = older ++ (last ∷ []) ∷ [];
+  gates = gates;
+  number = gates;
+  place = sum_by batch_length older;
+  first = length closed;
+  weight = sum_by record_length closed;
+  next = next_after closed;
+  image = image;
+  table = [];
+}
+
+pub stands_before :
+    (closed : List Record) (rolled deleted : List ℕ) (older : List (List Record)) (gates : ℕ) (image : List (List ℕ))
+    → (r : Record) × (E : List Record) × ((last_epoch closed).records ≡ r ∷ E) → flat_map (λ b. b) older ≡ closed → 0 < gates
+    → image ≡ recovered (sizes_of (closed ++ Restarted rolled deleted ∷ [])) (closed ++ Restarted rolled deleted ∷ [])
+    → IsRestarted (closed ++ Restarted rolled deleted ∷ []) (files_before older closed (Restarted rolled deleted) gates image)
+stands_before closed rolled deleted older gates image some spell open_gate image_is = record {
+  closed = closed;
+  rolled = rolled;
+  deleted = deleted;
+  log = refl;
+  some = some;
+  older = older;
+  batches = refl;
+  spell = spell;
+  gates = open_gate;
+  number = refl;
+  place = refl;
+  first = refl;
+  weight = refl;
+  next = refl;
+  image = image_is;
+  table = refl;
+}
+
 restarted_fits :
     (s : Sizes) (bases : Bases) (missed : ℕ → Bool) (L : List Record) (F : Files) → (is : IsRestarted L F)
     → F.image ≡ bases (last_epoch L).first → length F.image ≡ regions s → log_in F ≡ L

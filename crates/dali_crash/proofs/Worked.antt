@@ -1,5 +1,5 @@
 -- The worked run: each premise of each step is met.
-use Rattle.std.proofs.Common.{◌≡◌, true, List, [], ◌∷◌, refl, ap, ℕ, ◌++◌, sym, arith, zero, suc, ◌<◌, Some, false, Option, ◌∙◌}
+use Rattle.std.proofs.Common.{◌≡◌, List, [], ◌∷◌, refl, ap, ℕ, ◌++◌, sym, arith, zero, suc, ◌<◌, Some, false, Option, ◌∙◌}
 use Rattle.std.specs.Prelude.{replicate, slice_get, is_some}
 use Rattle.dali_record.specs.declared.records.Record.TheVariants.{Format, Begin, Commit, Done, Forward}
 use Rattle.dali_system.specs.Worked.{small, first_log, first_vault, start, first_files, formatted_files}
@@ -10,7 +10,7 @@ use Rattle.dali_record.specs.declared.records.Answer.TheVariants.{Missing}
 use Rattle.dali_record.specs.Files.{Files}
 use Rattle.dali_region.specs.State.{RegionState, loaded, latched, with_reads, touched}
 use Rattle.dali_locks.specs.declared.mode.Mode.TheVariants.{Shared}
-use Rattle.dali_system.specs.Run.{log_in, blocks_on, covers}
+use Rattle.dali_system.specs.Run.{log_in, blocks_on}
 use Rattle.dali_system.specs.Steps.{begun, commit_logged, op_logged, done_logged, granted, taken}
 use Rattle.dali_system.specs.Keeps.{with_system, with_region, with_touched}
 use Rattle.dali_system.specs.Regions.{Latch, NoteReads}
@@ -27,16 +27,13 @@ use Rattle.dali_geometry.specs.Places.{formatted_image}
 use Rattle.dali_record.specs.Epochs.{last_epoch}
 use Rattle.dali_crash.proofs.Courses.{format_is_history}
 use Rattle.dali_crash.specs.Restarts.{RestartsRight}
-use Rattle.std.specs.FinMap.{get}
 use Rattle.dali_lists.proofs.Options.{some_same}
 use Rattle.dali_att.specs.Table.{fresh_row}
 use Rattle.dali_system.proofs.Tables.{added}
 use Rattle.dali_system.proofs.RowStates.{begun_state, op_state}
 use Rattle.dali_att.specs.declared.state.State.TheVariants.{Live}
-use Rattle.dali_system.specs.State.{TxnRow, state_of, lock_of}
-use Rattle.dali_locks.specs.declared.mode.Mode.{Mode}
-use Rattle.dali_locks.proofs.Changes.{get-locks_with}
-use Rattle.dali_system.proofs.Damage.{shared}
+use Rattle.dali_system.specs.State.{TxnRow, state_of}
+use Rattle.dali_system.proofs.Damage.{shared_covers}
 use Rattle.dali_crash.proofs.Traces.{every_core_trace_is_right}
 
 -- ---- the moments
@@ -126,9 +123,6 @@ is_look : IsBlock look
 unfolding look
 is_look = made_is_block Look 5 0 words tt (omega arith) (omega arith) are_words
 
-has_lock : covers (lock_of locked.core.system 2 5) false ≡ true
-has_lock = ap (λ (o : Option Mode). covers o false) (get-locks_with begun_2.core.system.locks 2 5 Shared 2 5) ∙ shared (get begun_2.core.system.locks (2, 5))
-
 step_8 : IsStepAt read (Operates 2 look) operated
 unfolding look entries
 step_8 = (
@@ -141,7 +135,7 @@ step_8 = (
       next = refl;
       by = logs_by _ Live (Forward 2 look) live_locked refl;
       kind = refl;
-      locked = has_lock;
+      locked = shared_covers begun_2.core.system.locks;
       at = refl;
       is_open = record { hold = refl; reads = refl; sound = λ h. refl; stands = λ h. refl };
     },

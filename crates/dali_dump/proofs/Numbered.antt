@@ -1,12 +1,17 @@
 -- The lines of a log so far.
 --     IsDumpedTo log r n text     the reader has handed out so many records of the log, and the text has their lines
-use Rattle.std.proofs.Common.{◌≡◌, ◌∙◌, ◌+◌, ℕ, List, [], ◌∷◌, ◌++◌, length, refl, sym, ap, arith, append-nil, append_assoc, length-append}
+--     IsDumping .. old new r n text   so it has of a store that tells its contents, and the store was only read
+use Rattle.std.proofs.Common.{◌≡◌, ◌≤◌, ◌∙◌, ◌+◌, ℕ, List, [], ◌∷◌, ◌++◌, length, refl, sym, ap, arith, append-nil, append_assoc, length-append, subst, Option, Some, None, IfSome}
 use Rattle.dali_record.specs.declared.records.Record.{Record}
 use Rattle.dali_record.specs.declared.records.Record.TheVariants.{Format}
+use Rattle.dali_store.specs.Store.{Files}
+use Rattle.dali_store.specs.Calls.{PassesFewer}
 use Rattle.dali_batch.specs.declared.reader.Placed.{Placed}
 use Rattle.dali_batch.specs.Log.{BadAt}
-use Rattle.dali_batch.specs.Stream.{Reading, IsReadFrom, IsReadTo, GoesOn, EndsAt, IsBadFrom}
+use Rattle.dali_batch.specs.Stream.{Reading, IsReadFrom, IsReadTo, GoesOn, EndsAt, IsBadFrom, IsWhole}
+use Rattle.dali_batch.specs.Reads.{OnlyReads}
 use Rattle.dali_batch.proofs.Streaming.{read_on, read_all, read_bad}
+use Rattle.dali_batch.proofs.Readings.{reads_then}
 use Rattle.dali_dump.specs.Lines.{record_line, record_lines, IsDump}
 
 pub record IsDumpedTo (log : List ℕ) (r : Reading) (n : ℕ) (text : List ℕ) : Type 0 where
@@ -42,6 +47,34 @@ dumped_on log r s given n old new goes so_far added =
       lines = added ∙ ap (λ (l : List ℕ). l ++ record_line n given.entry) so_far.lines
           ∙ ap (λ (m : ℕ). record_lines 0 rs ++ record_line m given.entry) count ∙ sym (record_lines-push 0 rs given.entry);
     }
+
+-- ---- over a store
+module _ {V : Type 0} (told : V → Option Files) (moment : V → ℕ) (left_since : V → ℕ → Files → Type 0) (may_leave : V → Files → Type 0) (lets_pass : V → Option ℕ) (faults : V → ℕ) where
+  pub record IsDumping (old new : V) (r : Reading) (n : ℕ) (text : List ℕ) : Type 0 where
+    pub whole : IsWhole r
+    pub few : n ≤ r.at
+    pub dumped : IfSome (told old) (λ fs. IsDumpedTo fs.log r n text)
+    pub reads : OnlyReads told moment left_since may_leave old new
+    pub passes : PassesFewer (lets_pass old) (lets_pass new)
+    pub kept : faults new ≡ faults old
+
+  -- the next record
+  pub dumps_next : (old mid new : V) (read : Option Placed) (given : Placed) (r s : Reading) (n : ℕ) (text longer : List ℕ) → IsDumping old mid r n text
+      → IfSome read (λ x. IfSome (told mid) (λ fs. GoesOn fs.log r x s)) → read ≡ Some given → longer ≡ text ++ record_line n given.entry
+      → IsWhole s → n + 1 ≤ s.at → OnlyReads told moment left_since may_leave mid new → PassesFewer (lets_pass old) (lets_pass new) → faults new ≡ faults old → IsDumping old new s (n + 1) longer
+  dumps_next old mid new read given r s n text longer so_far goes is added whole few reads passes kept = record {
+    whole = whole;
+    few = few;
+    dumped = by_told (told old) (told mid) so_far.dumped so_far.reads.same goes;
+    reads = reads_then told moment left_since may_leave old mid new so_far.reads reads;
+    passes = passes;
+    kept = kept;
+  }
+    where
+      by_told : (o p : Option Files) → IfSome o (λ fs. IsDumpedTo fs.log r n text) → p ≡ o → IfSome read (λ x. IfSome p (λ fs. GoesOn fs.log r x s)) → IfSome o (λ fs. IsDumpedTo fs.log s (n + 1) longer)
+      by_told None p before same on = tt
+      by_told (Some fs) p before same on =
+          dumped_on fs.log r s given n text longer (subst (λ (q : Option Files). IfSome q (λ gs. GoesOn gs.log r given s)) same (subst (λ (z : Option Placed). IfSome z (λ x. IfSome p (λ gs. GoesOn gs.log r x s))) is on)) before added
 
 pub all_dumped : (log : List ℕ) (r s : Reading) (n : ℕ) (text : List ℕ) → EndsAt log r s → IsDumpedTo log r n text → IsDump log text
 all_dumped log r s n text ends so_far =

@@ -1,6 +1,6 @@
 -- The lists of restarts are those of the deleted, and the table's rows are those that a checkpoint keeps.
 use Rattle.std.proofs.Common.{◌≡◌, ℕ, zero, suc, ◌-◌, Bool, true, false, List, [], ◌∷◌, ◌++◌, length, map, take, Option, Some, None, refl, ap, sym, subst, ◌∙◌, ⊎_elim, append-nil, arith}
-use Rattle.std.specs.Prelude.{◌==◌, ◌&&◌, ◌||◌, not, if◌then◌else◌, IsSome, slice_get, Contains, filter, flat_map}
+use Rattle.std.specs.Prelude.{◌==◌, ◌||◌, not, if◌then◌else◌, IsSome, slice_get, Contains, filter, flat_map}
 use Rattle.std.specs.List.{list_any}
 use Rattle.std.specs.Cmp.{both_ways}
 use Rattle.std.proofs.lemmas.Grind.{flat_map-append}
@@ -22,6 +22,7 @@ use Rattle.dali_record.proofs.Pushes.{cut_push}
 use Rattle.dali_record.proofs.Tracks.{active-undos}
 use Rattle.dali_record.proofs.Stages.{state_from, state_before}
 use Rattle.dali_record.proofs.Batches.{number_is_length}
+use Rattle.dali_record.proofs.Moves.{over_next_is}
 use Rattle.dali_history.specs.Serial.{is_deleted, is_deleted_in}
 use Rattle.dali_history.proofs.Places.{get_from_Contains}
 use Rattle.dali_history.proofs.Members.{has_append, has-filter, has-filter_from, Contains-from_has, has_from_Contains}
@@ -120,25 +121,11 @@ over_if : (c : Bool) (y : TxnState) → allowed c (Some Over) ≡ Some y → y �
 over_if true y e = let same : Over ≡ y = cc (e) in sym same
 over_if false y e = absurd (cc (e))
 
-over_so : (y : TxnState) → Some Over ≡ Some y → y ≡ Over
-over_so y e = over_if true y e
-
 over_next : (s : Sizes) (t : ℕ) (r : Record) (y : TxnState) → txn_step s t Over r ≡ Some y → y ≡ Over
-over_next s t (Format i h) y e = over_so y e
-over_next s t (Begin u) y e = over_if (not (u == t)) y e
-over_next s t (Forward u b) y e = over_if (not (u == t)) y e
-over_next s t (Back u b) y e = over_if (not (u == t)) y e
-over_next s t (Done u c a) y e = over_if (not (u == t)) y e
-over_next s t (Commit u) y e = over_if (not (u == t)) y e
-over_next s t (Ended u) y e = over_if (not (u == t)) y e
-over_next s t (Solo u p b) y e = over_if (not (u == t) && not (p == t)) y e
-over_next s t AuditBegin y e = over_so y e
-over_next s t (AuditClean b) y e = over_so y e
-over_next s t (AuditFail b rs) y e = over_so y e
-over_next s t (Restarted rs ds) y e = over_so y e
+over_next s t r y e = let next = over_next_is t r in over_if next.0 y (sym next.1 ∙ e)
 
 over_stays : (s : Sizes) (t : ℕ) (E : List Record) (x : TxnState) → state_from s t Over E ≡ Some x → x ≡ Over
-over_stays s t E = by_push (λ M. (x : TxnState) → state_from s t Over M ≡ Some x → x ≡ Over) (λ x e. over_so x e) step E
+over_stays s t E = by_push (λ M. (x : TxnState) → state_from s t Over M ≡ Some x → x ≡ Over) (λ x e. over_if true x e) step E
   where
     step : (M : List Record) (r : Record) → ((x : TxnState) → state_from s t Over M ≡ Some x → x ≡ Over) → (y : TxnState) → state_from s t Over (M ++ r ∷ []) ≡ Some y → y ≡ Over
     step M r ih y e = let b = state_before s t Over M r y e in over_next s t r y (subst (λ z. txn_step s t z r ≡ Some y) (ih b.0 b.1) b.2)

@@ -50,10 +50,10 @@ use Rattle.dali_single.specs.declared.error.StepError.{StepError}
 use Rattle.dali_single.specs.declared.error.StepError.TheVariants.{Latch as LatchRefused, System as SystemRefused}
 use Rattle.dali_single.specs.Refusals.{IsAnswerTo, IsUnfreed, IsStuck, IsLatched}
 use Rattle.dali_single.specs.Single.{is_end, IsOwnStep, Leads, OthersStay as RowsStay, AreCovered}
-use Rattle.dali_single.specs.Ending.{IsBackOf, IsAtWork, IsEnded, IsStillAtWork}
+use Rattle.dali_single.specs.Ending.{IsBackOf, IsAtWork, HasEnded, IsEnded, IsStillAtWork}
 use Rattle.dali_single.specs.Settling.{MayFree, IsPromised, IsSoloOf, IsCommitted, IsSettled}
 use Rattle.dali_single.proofs.Standing.{own_steps_stand}
-use Rattle.dali_courses.proofs.Making.{own_steps_make, abort_makes, settling_makes}
+use Rattle.dali_courses.proofs.Making.{own_steps_make, end_makes}
 use Rattle.dali_clean.specs.Cleaned.{core, moment, AreDead, InRun}
 use Rattle.dali_clean.specs.Others.{OthersStay}
 use Rattle.dali_clean.proofs.Courses.{runs_of, HasWork, work_of}
@@ -176,26 +176,27 @@ mid_regions t log M mid hs z v ends =
     ap (λ (rs : List RegionState). let c : CoreState = record { regions = rs; system = mid.system; vault = mid.vault } in c) (sym (ap (λ (k : CoreState). k.regions) ends.2.1))
     ∙ ap (λ (u : VaultState). core hs mid.system u) (sym (ap (λ (k : CoreState). k.vault) ends.2.1))
 
+-- an end behind records of one kind
+walked_to_end : (own : Record → Type 0) (gs hs : List RegionState) (y z : SystemState) (t : ℕ) (L : List Record) (v : VaultState) (a : Audits) → HasEnded own L (core gs y v) t (core hs z v) → Walked t own (Ended t ∷ []) (moment gs y L v a) hs z
+walked_to_end own gs hs y z t L v a end = record {
+  log = end.log ++ Ended t ∷ [];
+  front = end.steps;
+  by = leads_front t L end.log (core gs y v) end.mid end.steps end.leads;
+  steps = end.steps ++ Ends t ∷ [];
+  is = refl;
+  course = (end_makes own L (core gs y v) (core hs z v) t a end).0;
+  records = end.records;
+  are = end.are;
+  logged = ap (λ (l : List Record). l ++ Ended t ∷ []) end.logged;
+}
+
 pub all_undone : (gs hs : List RegionState) (s z : Served) (t : ℕ) → state_of s.state t ≡ Some Live → Aborts t gs s.state hs z.state → RowsStay s.state t z.state → PromisesStay s t z → ((r : ℕ) → HoldStays gs hs r)
     → Left (IsBackOf t) (Ended t ∷ []) t gs s hs z
 all_undone gs hs s z t lives aborts stay promises holds = record {
-  walks = λ bases before L v a run dead. walked bases before L v a (aborts L v (work_here bases before L gs s.state v a run dead t lives));
+  walks = λ bases before L v a run dead. walked_to_end (IsBackOf t) gs hs s.state z.state t L v a (aborts L v (work_here bases before L gs s.state v a run dead t lives));
   others = rows_left gs hs s.state z.state t stay holds;
   promises = promises;
 }
-  where
-    walked : (bases : Bases) (before L : List Record) (v : VaultState) (a : Audits) → IsEnded L (core gs s.state v) t (core hs z.state v) → Walked t (IsBackOf t) (Ended t ∷ []) (moment gs s.state L v a) hs z.state
-    walked bases before L v a end = record {
-      log = end.log ++ Ended t ∷ [];
-      front = end.steps;
-      by = leads_front t L end.log (core gs s.state v) end.mid end.steps end.leads;
-      steps = end.steps ++ Ends t ∷ [];
-      is = refl;
-      course = (abort_makes L (core gs s.state v) (core hs z.state v) t a end).0;
-      records = end.own;
-      are = end.backs;
-      logged = ap (λ (l : List Record). l ++ Ended t ∷ []) end.logged;
-    }
 
 ended_same : (t : ℕ) (gs hs : List RegionState) (y z : SystemState) (v : VaultState) (L log M : List Record) (mid : CoreState) (xs : List Step) → Leads false t L (core gs y v) xs log mid → IsStep log mid (Ends t) M (core hs z v) → IsFree (core gs y v) t
     → (r : ℕ) → hold_in (slice_get hs r) ≡ hold_in (slice_get gs r)
@@ -293,7 +294,7 @@ Settles t us gs y hs z = (L : List Record) (v : VaultState) → IsCommitted L (c
 pub all_freed : (gs hs : List RegionState) (s z : Served) (t : ℕ) (us : List Pending) → state_of s.state t ≡ Some Committed → Settles t us gs s.state hs z.state → RowsStay s.state t z.state → PromisesStay s t z → ((r : ℕ) → HoldStays gs hs r)
     → IsGone z.state t → promised_to z.promised t ≡ 0 → Settled t us gs s hs z
 all_freed gs hs s z t us state settles stay promises holds gone released = record {
-  walks = λ bases before L v a run dead ending. walked bases before L v a (settles L v (settling_here bases before L gs s.state v a run dead t us state ending));
+  walks = λ bases before L v a run dead ending. walked_to_end (IsSoloOf t) gs hs s.state z.state t L v a (settles L v (settling_here bases before L gs s.state v a run dead t us state ending));
   others = rows_left gs hs s.state z.state t stay holds;
   promises = promises;
   gone = gone;
@@ -301,19 +302,6 @@ all_freed gs hs s z t us state settles stay promises holds gone released = recor
   holds = λ settling q none. same settling q;
 }
   where
-    walked : (bases : Bases) (before L : List Record) (v : VaultState) (a : Audits) → IsSettled L (core gs s.state v) t (core hs z.state v) → Walked t (IsSoloOf t) (Ended t ∷ []) (moment gs s.state L v a) hs z.state
-    walked bases before L v a end = record {
-      log = end.log ++ Ended t ∷ [];
-      front = end.steps;
-      by = leads_front t L end.log (core gs s.state v) end.mid end.steps end.leads;
-      steps = end.steps ++ Ends t ∷ [];
-      is = refl;
-      course = (settling_makes L (core gs s.state v) (core hs z.state v) t a end).0;
-      records = end.own;
-      are = end.solos;
-      logged = ap (λ (l : List Record). l ++ Ended t ∷ []) end.logged;
-    }
-
     same : IsSettling gs s.state t us → (r : ℕ) → hold_in (slice_get hs r) ≡ hold_in (slice_get gs r)
     same settling =
         let r = settling.running in

@@ -126,19 +126,19 @@ pub record Same (y z : SystemState) : Type 0 where
   pub taken : z.taken ≡ y.taken
   pub first : z.first ≡ y.first
 
-same_by : (c d e : CoreState) → d ≡ e → Same c.system e.system → Same c.system d.system
-same_by c d e is same = subst (λ (k : CoreState). Same c.system k.system) (sym is) same
+same_by : (c d e : CoreState) → d ≡ e → e.system.sizes ≡ c.system.sizes → e.system.stop ≡ c.system.stop → e.system.taken ≡ c.system.taken → e.system.first ≡ c.system.first → Same c.system d.system
+same_by c d e is sizes stop taken first = subst (λ (k : CoreState). Same c.system k.system) (sym is) (record { sizes = sizes; stop = stop; taken = taken; first = first })
 
 same_step : (L M : List Record) (c d : CoreState) (x : Step) → is_of_end x ≡ true → IsStep L c x M d → Same c.system d.system
-same_step L M c d (Operates t b) e s = same_by c d _ s.3.1 (record { sizes = refl; stop = refl; taken = refl; first = refl })
-same_step L M c d (TakesBack t b) e s = same_by c d _ s.2.1 (record { sizes = refl; stop = refl; taken = refl; first = refl })
-same_step L M c d (Frees t b) e s = same_by c d _ s.2.1 (record { sizes = refl; stop = refl; taken = refl; first = refl })
-same_step L M c d (Ends t) e s = same_by c d _ s.2.1 (record { sizes = refl; stop = refl; taken = refl; first = refl })
-same_step L M c d (Locks t k m) e s = same_by c d _ s.2.1 (record { sizes = refl; stop = refl; taken = refl; first = refl })
-same_step L M c d (OnRegion r x) e s = same_by c d _ s.3.1 (record { sizes = refl; stop = refl; taken = refl; first = refl })
-same_step L M c d (Claims t) e s = same_by c d _ s.2.1 (record { sizes = refl; stop = refl; taken = refl; first = refl })
-same_step L M c d (GivesBack t o) e s = same_by c d _ s.1.1 (record { sizes = refl; stop = refl; taken = refl; first = refl })
-same_step L M c d (Recovers r) e s = same_by c d _ s.3.1 (record { sizes = refl; stop = refl; taken = refl; first = refl })
+same_step L M c d (Operates t b) e s = same_by c d _ s.3.1 refl refl refl refl
+same_step L M c d (TakesBack t b) e s = same_by c d _ s.2.1 refl refl refl refl
+same_step L M c d (Frees t b) e s = same_by c d _ s.2.1 refl refl refl refl
+same_step L M c d (Ends t) e s = same_by c d _ s.2.1 refl refl refl refl
+same_step L M c d (Locks t k m) e s = same_by c d _ s.2.1 refl refl refl refl
+same_step L M c d (OnRegion r x) e s = same_by c d _ s.3.1 refl refl refl refl
+same_step L M c d (Claims t) e s = same_by c d _ s.2.1 refl refl refl refl
+same_step L M c d (GivesBack t o) e s = same_by c d _ s.1.1 refl refl refl refl
+same_step L M c d (Recovers r) e s = same_by c d _ s.3.1 refl refl refl refl
 same_step L M c d x e s = absurd cc
 
 pub same_course : (m n : Moment) (xs : List Step) → list_all is_of_end xs ≡ true → IsCourse m xs n → Same m.core.system n.core.system

@@ -1,9 +1,8 @@
 -- What steps leave of a whole core and its image files.
-use Rattle.std.proofs.Common.{◌≡◌, ◌≢◌, ℕ, Bool, true, false, not, ◌==◌, List, [], ◌∷◌, Option, Some, None, Result, Ok, Err, OnOk, OnErr, IfSome, map, refl, ap, sym, subst, ◌∙◌, slice_get, slice_set}
+use Rattle.std.proofs.Common.{◌≡◌, ℕ, Bool, true, false, not, List, [], ◌∷◌, Option, Some, None, Result, Ok, Err, OnOk, OnErr, IfSome, map, refl, ap, sym, subst, ◌∙◌, slice_get, slice_set}
 use Rattle.std.specs.List.{list_all}
-use Rattle.std.proofs.lemmas.Bool.Decides.{Decides-eqb}
 use Rattle.std.proofs.lemmas.Bool.{and_parts}
-use Rattle.dali_lists.proofs.Lists.{get_set, get_set_other}
+use Rattle.dali_lists.proofs.Lists.{EachFrom, each_same, each_set, each_then}
 use Rattle.dali_lists.proofs.Tests.{left_false}
 use Rattle.dali_record.specs.declared.records.Record.{Record}
 use Rattle.dali_record.specs.declared.records.Record.TheVariants.{Ended}
@@ -41,9 +40,6 @@ use Rattle.dali_ends.proofs.Durable.{Leaves, logged, logged_as, flushed_stands}
 abbrev pub IsNoCleaner : RegionState → RegionState → Type 0
 IsNoCleaner g h = (side : Side) → is_dirty h side ≡ false → is_dirty g side ≡ false
 
-abbrev pub AreNoCleaner : List RegionState → List RegionState → Type 0
-AreNoCleaner gs hs = (r : ℕ) (h : RegionState) → slice_get hs r ≡ Some h → (g : RegionState) × (slice_get gs r ≡ Some g) × IsNoCleaner g h
-
 pub touched_no_cleaner : (g : RegionState) → IsNoCleaner g (touched g)
 touched_no_cleaner g A e = left_false g.dirty_a (wrote g) e
 touched_no_cleaner g OtherSide e = left_false g.dirty_b (wrote g) e
@@ -56,44 +52,34 @@ change_no_cleaner : (x : RegionStep) (g : RegionState) → clears x ≡ false �
 change_no_cleaner (Clean side) g e = absurd cc
 change_no_cleaner x g e = kept_no_cleaner g (region_after x g) refl refl
 
-pub same_no_cleaner : (gs : List RegionState) → AreNoCleaner gs gs
-same_no_cleaner gs r h at = (h, at, λ side e. e)
+same_side : (g : RegionState) → IsNoCleaner g g
+same_side g side e = e
 
-pub set_no_cleaner : (gs : List RegionState) (r : ℕ) (g h : RegionState) → slice_get gs r ≡ Some g → IsNoCleaner g h → AreNoCleaner gs (slice_set gs r h)
-set_no_cleaner gs r g h at than q k there = by_test (r == q) refl
-  where
-    same_some : (x y : RegionState) → (let o : Option RegionState = Some x in o ≡ Some y) → x ≡ y
-    same_some x y e = cc
+pub same_no_cleaner : (gs : List RegionState) → EachFrom IsNoCleaner gs gs
+same_no_cleaner gs = each_same IsNoCleaner gs same_side
 
-    apart : (r == q) ≡ false → r ≢ q
-    apart n e = let is : (r == q) ≡ true = (Decides-eqb r q).1 e in cc
+pub set_no_cleaner : (gs : List RegionState) (r : ℕ) (g h : RegionState) → slice_get gs r ≡ Some g → IsNoCleaner g h → EachFrom IsNoCleaner gs (slice_set gs r h)
+set_no_cleaner gs r g h at than = each_set IsNoCleaner gs r g h same_side at than
 
-    by_test : (b : Bool) → (r == q) ≡ b → (i : RegionState) × (slice_get gs q ≡ Some i) × IsNoCleaner i k
-    by_test true e =
-        let same : r ≡ q = (Decides-eqb r q).0 e in
-        let is : h ≡ k = same_some h k (sym (get_set gs r g h at) ∙ (ap (λ (n : ℕ). slice_get (slice_set gs r h) n) same ∙ there)) in
-        (g, ap (λ (n : ℕ). slice_get gs n) (sym same) ∙ at, subst (λ (x : RegionState). IsNoCleaner g x) is than)
-    by_test false e = (k, sym (get_set_other gs r h q (apart e)) ∙ there, λ side f. f)
-
-by_core : (c d e : CoreState) → d ≡ e → AreNoCleaner c.regions e.regions → AreNoCleaner c.regions d.regions
-by_core c d e is than = subst (λ (k : CoreState). AreNoCleaner c.regions k.regions) (sym is) than
+by_core : (c d e : CoreState) → d ≡ e → EachFrom IsNoCleaner c.regions e.regions → EachFrom IsNoCleaner c.regions d.regions
+by_core c d e is than = subst (λ (k : CoreState). EachFrom IsNoCleaner c.regions k.regions) (sym is) than
 
 -- the hold of a region is dead
-dead_no_cleaner : (gs : List RegionState) (o : Option ℕ) → AreNoCleaner gs (dead_in gs o)
+dead_no_cleaner : (gs : List RegionState) (o : Option ℕ) → EachFrom IsNoCleaner gs (dead_in gs o)
 dead_no_cleaner gs None = same_no_cleaner gs
 dead_no_cleaner gs (Some r) = by_region (slice_get gs r) refl
   where
-    by_region : (p : Option RegionState) → slice_get gs r ≡ p → AreNoCleaner gs (dead_in gs (Some r))
-    by_region None i = subst (λ (hs : List RegionState). AreNoCleaner gs hs) (sym (none_dead i)) (same_no_cleaner gs)
+    by_region : (p : Option RegionState) → slice_get gs r ≡ p → EachFrom IsNoCleaner gs (dead_in gs (Some r))
+    by_region None i = subst (λ (hs : List RegionState). EachFrom IsNoCleaner gs hs) (sym (none_dead i)) (same_no_cleaner gs)
       where
         none_dead : slice_get gs r ≡ None → dead_in gs (Some r) ≡ gs
         none_dead e = rw e refl
-    by_region (Some g) i = subst (λ (hs : List RegionState). AreNoCleaner gs hs) (sym (some_dead i)) (set_no_cleaner gs r g (dead g) i (kept_no_cleaner g (dead g) refl refl))
+    by_region (Some g) i = subst (λ (hs : List RegionState). EachFrom IsNoCleaner gs hs) (sym (some_dead i)) (set_no_cleaner gs r g (dead g) i (kept_no_cleaner g (dead g) refl refl))
       where
         some_dead : slice_get gs r ≡ Some g → dead_in gs (Some r) ≡ slice_set gs r (dead g)
         some_dead e = rw e refl
 
-pub step_no_cleaner : (L M : List Record) (c d : CoreState) (x : Step) → is_of_checkpoint x ≡ false → IsStep L c x M d → AreNoCleaner c.regions d.regions
+pub step_no_cleaner : (L M : List Record) (c d : CoreState) (x : Step) → is_of_checkpoint x ≡ false → IsStep L c x M d → EachFrom IsNoCleaner c.regions d.regions
 step_no_cleaner L M c d Begins e s = by_core c d _ s.1.1 (same_no_cleaner c.regions)
 step_no_cleaner L M c d (Operates t b) e s = by_core c d _ s.3.1 (set_no_cleaner c.regions b.region s.0 (touched s.0) s.2.at (touched_no_cleaner s.0))
 step_no_cleaner L M c d (TakesBack t b) e s = by_core c d _ s.2.1 (set_no_cleaner c.regions b.region s.0 (touched s.0) s.1.at (touched_no_cleaner s.0))
@@ -112,11 +98,8 @@ step_no_cleaner L M c d Flushes e s = by_core c d _ s.1.1 (same_no_cleaner c.reg
 step_no_cleaner L M c d (ReadFails n) e s = by_core c d _ s.1.1 (same_no_cleaner c.regions)
 step_no_cleaner L M c d _ e s = by_core c d _ s.2.1 (same_no_cleaner c.regions)
 
-further : (fs gs hs : List RegionState) → AreNoCleaner fs gs → AreNoCleaner gs hs → AreNoCleaner fs hs
-further fs gs hs p q r h at =
-    let mid = q r h at in
-    let first = p r mid.0 mid.1 in
-    (first.0, first.1, λ side e. first.2 side (mid.2 side e))
+further : (fs gs hs : List RegionState) → EachFrom IsNoCleaner fs gs → EachFrom IsNoCleaner gs hs → EachFrom IsNoCleaner fs hs
+further fs gs hs = each_then IsNoCleaner fs gs hs (λ f g h p q side e. p side (q side e))
 
 of_none : (x : Step) → is_quiet x ≡ true → is_of_checkpoint x ≡ false
 of_none x e = by_flag (is_of_checkpoint x) (and_parts (not (is_of_checkpoint x)) (calls_none x) e).0
@@ -125,19 +108,19 @@ of_none x e = by_flag (is_of_checkpoint x) (and_parts (not (is_of_checkpoint x))
     by_flag true e = absurd cc
     by_flag false e = refl
 
-pub course_no_cleaner : (m n : Moment) (xs : List Step) → list_all is_quiet xs ≡ true → IsCourse m xs n → AreNoCleaner m.core.regions n.core.regions
-course_no_cleaner m n [] e course = subst (λ (k : Moment). AreNoCleaner m.core.regions k.core.regions) course (same_no_cleaner m.core.regions)
+pub course_no_cleaner : (m n : Moment) (xs : List Step) → list_all is_quiet xs ≡ true → IsCourse m xs n → EachFrom IsNoCleaner m.core.regions n.core.regions
+course_no_cleaner m n [] e course = subst (λ (k : Moment). EachFrom IsNoCleaner m.core.regions k.core.regions) course (same_no_cleaner m.core.regions)
 course_no_cleaner m n (x ∷ xs) e course =
     let both = and_parts (is_quiet x) (list_all is_quiet xs) e in
     further m.core.regions course.0.core.regions n.core.regions (step_no_cleaner m.log course.0.log m.core course.0.core x (of_none x both.0) course.1.0) (course_no_cleaner course.0 n xs both.1 course.2)
 
 -- ---- the image files
-places_on : (gs hs : List RegionState) (fs : Disk) → AreNoCleaner gs hs → HoldsPlaces gs fs → HoldsPlaces hs fs
+places_on : (gs hs : List RegionState) (fs : Disk) → EachFrom IsNoCleaner gs hs → HoldsPlaces gs fs → HoldsPlaces hs fs
 places_on gs hs fs than places side r h at clean =
     let was = than r h at in
     places side r was.0 was.1 (was.2 side clean)
 
-pub places_told : (o : Option Disk) (gs hs : List RegionState) → AreNoCleaner gs hs → IfSome o (HoldsPlaces gs) → IfSome o (HoldsPlaces hs)
+pub places_told : (o : Option Disk) (gs hs : List RegionState) → EachFrom IsNoCleaner gs hs → IfSome o (HoldsPlaces gs) → IfSome o (HoldsPlaces hs)
 places_told None gs hs than places = tt
 places_told (Some fs) gs hs than places = places_on gs hs fs than places
 
@@ -154,14 +137,14 @@ module _ {V : Type 0} (told : V → Option Disk) (may_leave : V → Disk → Typ
   whole_here s B p gs y v k files = record { parts = λ u. any_vault gs y p.core.vault u (run_at told may_leave faults s B p gs y v k).whole; files = files }
 
   pub arrived_no_cleaner : (s : Start) (B : List (List Record)) (p : Point) (gs hs : List RegionState) (y z : SystemState) (v : Vaulted V) (steps : List Step) (log : List Record) → StandsAt told may_leave faults s B p gs y v → list_all is_of_end steps ≡ true
-      → Arrived told may_leave faults s B p v steps log hs z → AreNoCleaner gs hs
+      → Arrived told may_leave faults s B p v steps log hs z → EachFrom IsNoCleaner gs hs
   arrived_no_cleaner s B p gs hs y z v steps log k kind a =
-      subst (λ (rs : List RegionState). AreNoCleaner rs hs) k.at.regions
-      (subst (λ (rs : List RegionState). AreNoCleaner p.core.regions rs) a.stands.at.regions
+      subst (λ (rs : List RegionState). EachFrom IsNoCleaner rs hs) k.at.regions
+      (subst (λ (rs : List RegionState). EachFrom IsNoCleaner p.core.regions rs) a.stands.at.regions
       (course_no_cleaner (moment_of p) (moment_of a.to) steps (quiet_steps steps kind) (core_course p a.to steps a.course)))
 
   come_no_cleaner : (t : ℕ) (own : Record → Type 0) (last : List Record) (s : Start) (B : List (List Record)) (p : Point) (gs hs : List RegionState) (y z : SystemState) (v : Vaulted V) → StandsAt told may_leave faults s B p gs y v
-      → HasCome told may_leave faults t own last s B p v hs z → AreNoCleaner gs hs
+      → HasCome told may_leave faults t own last s B p v hs z → EachFrom IsNoCleaner gs hs
   come_no_cleaner t own last s B p gs hs y z v k e =
       arrived_no_cleaner s B p gs hs y z v e.steps e.to.log k (come_of_end told may_leave faults t own last s B p v hs z e) (arrived_of told may_leave faults t own last s B p v hs z e)
 

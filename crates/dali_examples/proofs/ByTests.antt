@@ -4,10 +4,10 @@
 --     reread L                 what reading the spellings of the records gives
 --     HonestFrom               honesty, block by block
 use Rattle.std.proofs.Common.{◌≡◌, ℕ, zero, suc, ◌+◌, ◌<◌, ◌≤◌, Bool, true, false, List, [], ◌∷◌, ◌++◌, length, take, Option, Some, None, refl, ap, sym, subst, ◌∙◌, ◌⊎◌, inl, inr, ⊎_elim, arith, append_assoc}
-use Rattle.std.specs.Prelude.{slice_get, ◌==◌, ◌&&◌, ◌||◌, not, nat_lt, is_some, IsSome, ⊤, fold, map}
+use Rattle.std.specs.Prelude.{slice_get, ◌==◌, ◌&&◌, ◌||◌, not, nat_lt, is_some, IsSome, ⊤, fold, map, option_to_list}
 use Rattle.std.specs.List.{list_all, list_any}
 use Rattle.std.proofs.lemmas.List.{length_push}
-use Rattle.std.proofs.lemmas.Bool.{and_parts, or_cases, both_ways, ltb-true, ne_eqb, cases_lt, agree_below, agree_below_at}
+use Rattle.std.proofs.lemmas.Bool.{and_parts, both_ways, ltb-true, ne_eqb, cases_lt, agree_below, agree_below_at}
 use Rattle.std.proofs.lemmas.Bool.Decides.{Decides-eqb}
 use Rattle.std.proofs.lemmas.Option.{slice_get_within}
 use Rattle.dali_lists.proofs.Lists.{get_front}
@@ -15,8 +15,8 @@ use Rattle.dali_bytes.specs.Cursor.{IsBytes}
 use Rattle.dali_geometry.specs.Sizes.{Sizes}
 use Rattle.dali_record.specs.declared.operations.Block.{Block}
 use Rattle.dali_record.specs.declared.records.Record.{Record}
-use Rattle.dali_record.specs.declared.records.Record.TheVariants.{Format, Begin, Forward, Done, Commit, Ended, Solo, AuditBegin, AuditClean, AuditFail, Restarted, Back}
-use Rattle.dali_record.specs.Log.{Touch, touch_of, touch_at}
+use Rattle.dali_record.specs.declared.records.Record.TheVariants.{Begin, Forward, Done, Commit, Ended, Solo, Restarted, Back}
+use Rattle.dali_record.specs.Log.{Touch, touch_of, touch_at, txn_of}
 use Rattle.dali_record.specs.Epochs.{Epoch, clean_place, failing}
 use Rattle.dali_record.specs.Locks.{conflicts, IsLockLegalIn}
 use Rattle.dali_record.specs.Damage.{has}
@@ -32,14 +32,8 @@ use Rattle.dali_history.proofs.Restarts.{is_restart}
 
 -- ---- each transaction
 abbrev pub named_by : Record → List ℕ
-named_by (Begin t) = t ∷ []
-named_by (Forward t b) = t ∷ []
-named_by (Back t b) = t ∷ []
-named_by (Done t c a) = t ∷ []
-named_by (Commit t) = t ∷ []
-named_by (Ended t) = t ∷ []
 named_by (Solo t p b) = t ∷ p ∷ []
-named_by _ = []
+named_by r = option_to_list (txn_of r)
 
 abbrev pub names_below : ℕ → List Record → Bool
 names_below n L = list_all (λ r. list_all (λ u. nat_lt u n) (named_by r)) L
@@ -48,7 +42,6 @@ another : (n t u : ℕ) (rest : Bool) → n ≤ t → (nat_lt u n && rest) ≡ t
 another n t u rest h e = let l : u < n = ltb-true u n (and_parts (nat_lt u n) rest e).0 in ne_eqb u t (λ k. absurd (omega (arith, h, l, k)))
 
 unnamed_step : (s : Sizes) (n t : ℕ) (r : Record) → n ≤ t → list_all (λ u. nat_lt u n) (named_by r) ≡ true → txn_step s t Unbegun r ≡ Some Unbegun
-unnamed_step s n t (Format i k) h e = refl
 unnamed_step s n t (Begin u) h e = rw (another n t u true h e) refl
 unnamed_step s n t (Forward u b) h e = rw (another n t u true h e) refl
 unnamed_step s n t (Done u c a) h e = rw (another n t u true h e) refl
@@ -57,11 +50,8 @@ unnamed_step s n t (Ended u) h e = rw (another n t u true h e) refl
 unnamed_step s n t (Solo u p b) h e =
     let q : (p == t) ≡ false = another n t p true h (and_parts (nat_lt u n) (nat_lt p n && true) e).1 in
     rw (another n t u (nat_lt p n && true) h e, q) refl
-unnamed_step s n t AuditBegin h e = refl
-unnamed_step s n t (AuditClean b) h e = refl
-unnamed_step s n t (AuditFail b rs) h e = refl
-unnamed_step s n t (Restarted rs ds) h e = refl
 unnamed_step s n t (Back u b) h e = rw (another n t u true h e) refl
+unnamed_step s n t _ h e = refl
 
 unnamed : (s : Sizes) (n t : ℕ) (L : List Record) → n ≤ t → names_below n L ≡ true → txn_state s t L ≡ Some Unbegun
 unnamed s n t [] h e = refl

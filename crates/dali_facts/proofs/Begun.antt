@@ -17,6 +17,7 @@ use Rattle.dali_record.specs.Legal.{TxnState, Unbegun, Active, Committed as Endi
 use Rattle.dali_record.proofs.Ends.{by_push}
 use Rattle.dali_record.proofs.Pushes.{txn_state_push, cut_push}
 use Rattle.dali_record.proofs.EpochRules.{format_first, rules_before}
+use Rattle.dali_record.proofs.Moves.{over_next_is}
 use Rattle.dali_system.specs.State.{TxnRow}
 use Rattle.dali_system.specs.Run.{IsRow, is_running}
 use Rattle.dali_system.proofs.OneMore.{is_inside, step_inside}
@@ -86,34 +87,23 @@ st_between s t x (Format i n) b e k h = absurd (cc)
 st_between s t x (Begin u) b e k h = absurd (cc)
 st_between s t x (Ended u) b e k h = absurd (cc)
 st_between s t x (Restarted rs ds) b e k h = absurd (cc)
-st_between s t Unbegun (Forward u q) b e k h = st_allowed _ (Some Unbegun) b e h
-st_between s t Unbegun (Back u q) b e k h = st_allowed _ (Some Unbegun) b e h
-st_between s t Unbegun (Done u c a) b e k h = st_allowed _ (Some Unbegun) b e h
-st_between s t Unbegun (Commit u) b e k h = st_allowed _ (Some Unbegun) b e h
 st_between s t Unbegun (Solo u p q) b e k h = st_test (u == t) _ _ b e (st_allowed _ (Some Over) b e (unbegun_over b e h.0)) (st_allowed _ (Some Unbegun) b e h)
 st_between s t Unbegun AuditBegin b e k h = h
 st_between s t Unbegun (AuditClean a) b e k h = h
 st_between s t Unbegun (AuditFail a rs) b e k h = h
+st_between s t Unbegun _ b e k h = st_allowed _ (Some Unbegun) b e h
 st_between s t (Active w) (Forward u q) b e k h = st_test (u == t) (forward s t w q) (Some (Active w)) b e (st_forward s t w q b e h) h
 st_between s t (Active w) (Back u q) b e k h = st_test (u == t) (back w q (last_of w.undos)) (Some (Active w)) b e (st_back w q (last_of w.undos) b e h) h
 st_between s t (Active w) (Done u c a) b e k h = st_test (u == t) _ (Some (Active w)) b e (st_allowed (is_answer s w c a) (Some (rested w)) b e h) h
 st_between s t (Active w) (Commit u) b e k h = st_test (u == t) _ (Some (Active w)) b e (st_allowed (is_level w) (Some (Ending (dead_of w.undos))) b e h) h
 st_between s t (Active w) (Solo u p q) b e k h = st_allowed _ (Some (Active w)) b e h
-st_between s t (Active w) AuditBegin b e k h = h
-st_between s t (Active w) (AuditClean a) b e k h = h
-st_between s t (Active w) (AuditFail a rs) b e k h = h
-st_between s t (Ending ps) (Forward u q) b e k h = st_allowed _ (Some (Ending ps)) b e h
-st_between s t (Ending ps) (Back u q) b e k h = st_allowed _ (Some (Ending ps)) b e h
-st_between s t (Ending ps) (Done u c a) b e k h = st_allowed _ (Some (Ending ps)) b e h
-st_between s t (Ending ps) (Commit u) b e k h = st_allowed _ (Some (Ending ps)) b e h
+st_between s t (Active w) _ b e k h = h
 st_between s t (Ending ps) (Solo u p q) b e k h = st_allowed (not (u == t)) _ b e (st_test (p == t) (freed q ps) (Some (Ending ps)) b e (st_freed q ps b e h) h)
 st_between s t (Ending ps) AuditBegin b e k h = h
 st_between s t (Ending ps) (AuditClean a) b e k h = h
 st_between s t (Ending ps) (AuditFail a rs) b e k h = h
-st_between s t Over AuditBegin b e k h = h
-st_between s t Over (AuditClean a) b e k h = h
-st_between s t Over (AuditFail a rs) b e k h = h
-st_between s t Over _ b e k h = st_allowed _ (Some Over) b e h
+st_between s t (Ending ps) _ b e k h = st_allowed _ (Some (Ending ps)) b e h
+st_between s t Over r b e k h = let next = over_next_is t r in subst (λ (o : Option TxnState). Stands o b e) (sym next.1) (st_allowed next.0 (Some Over) b e h)
 
 -- ---- a Begin and an Ended
 
@@ -219,16 +209,7 @@ stands_push s t L x ih g e = by_kind x e
         subst (λ (c : Cut). StandsCut s t (txn_state s t (L ++ Restarted rs ds ∷ [])) c) (sym (cut_push L (Restarted rs ds)))
         (subst (λ o. StandsCut s t o (cut_step (cut L) (Restarted rs ds))) (sym (txn_state_push s t L (Restarted rs ds)))
         (st_restart s t (txn_state s t L) rs ds (has (begun (last_epoch L).records) t) (has (ended (last_epoch L).records) t) (ih before.0 before.1)))
-    by_kind (Begin u) f = more (Begin u) refl f
-    by_kind (Forward u q) f = more (Forward u q) refl f
-    by_kind (Done u c a) f = more (Done u c a) refl f
-    by_kind (Commit u) f = more (Commit u) refl f
-    by_kind (Ended u) f = more (Ended u) refl f
-    by_kind (Solo u p q) f = more (Solo u p q) refl f
-    by_kind AuditBegin f = more AuditBegin refl f
-    by_kind (AuditClean a) f = more (AuditClean a) refl f
-    by_kind (AuditFail a rs) f = more (AuditFail a rs) refl f
-    by_kind (Back u q) f = more (Back u q) refl f
+    by_kind y f = more y refl f
 
 pub stands : (s : Sizes) (t : ℕ) (L : List Record) → StandsIn s t L
 stands s t = by_push (StandsIn s t) (λ g e. (refl, refl)) (λ L x ih. stands_push s t L x ih)

@@ -11,6 +11,7 @@ use Rattle.dali_record.specs.Legal.{TxnState, Unbegun, Active, Committed as Endi
 use Rattle.dali_record.proofs.Ends.{by_push, get_push_cases}
 use Rattle.dali_record.proofs.Pushes.{txn_state_push, cut_push}
 use Rattle.dali_record.proofs.Tracks.{active-undos}
+use Rattle.dali_record.proofs.Moves.{over_next_is}
 use Rattle.dali_system.specs.State.{TxnRow, row_of}
 use Rattle.dali_att.specs.declared.state.State.TheVariants.{Committed as CommittedRow}
 use Rattle.dali_system.specs.Run.{IsRow, is_committed}
@@ -24,12 +25,7 @@ if_allowed true x h = refl
 if_allowed false x h = absurd (cc)
 
 over_stays : (t : ℕ) (x : Record) → IsSome (over_step t x) → over_step t x ≡ Some Over
-over_stays t (Format i h) k = refl
-over_stays t AuditBegin k = refl
-over_stays t (AuditClean b) k = refl
-over_stays t (AuditFail b rs) k = refl
-over_stays t (Restarted rs ds) k = refl
-over_stays t _ k = if_allowed _ Over k
+over_stays t x k = let next = over_next_is t x in next.1 ∙ if_allowed next.0 Over (subst IsSome next.1 k)
 
 never : (c : Bool) (x : TxnState) → c ≡ true → IsSome (allowed (not c) (Some x)) → ⊥
 never true x e h = cc

@@ -190,16 +190,7 @@ comes_push s t L x ih g e = by_kind x e
     by_kind (Format i n) f = at_format s t L i n (format_first s L i n g f)
     by_kind (Restarted rs ds) f =
         subst (λ o. Comes (cut (L ++ Restarted rs ds ∷ [])).now.records t o) (sym (txn_state_push s t L (Restarted rs ds))) (restarted s t (txn_state s t L) rs ds (cut (L ++ Restarted rs ds ∷ [])).now.records)
-    by_kind (Begin u) f = more (Begin u) refl f
-    by_kind (Forward u q) f = more (Forward u q) refl f
-    by_kind (Done u c a) f = more (Done u c a) refl f
-    by_kind (Commit u) f = more (Commit u) refl f
-    by_kind (Ended u) f = more (Ended u) refl f
-    by_kind (Solo u p q) f = more (Solo u p q) refl f
-    by_kind AuditBegin f = more AuditBegin refl f
-    by_kind (AuditClean a) f = more (AuditClean a) refl f
-    by_kind (AuditFail a rs) f = more (AuditFail a rs) refl f
-    by_kind (Back u q) f = more (Back u q) refl f
+    by_kind y f = more y refl f
 
 comes : (s : Sizes) (t : ℕ) (L : List Record) → ComesIn s t L
 comes s t = by_push (ComesIn s t) (λ g e. tt) (λ L x ih. comes_push s t L x ih)

@@ -29,9 +29,6 @@ use Rattle.dali_heap.proofs.Walk.{cell_row}
 abbrev taken : List ℕ → ℕ → List ℕ → List ℕ → ℕ → Effect × PutOutcome
 taken ws key v reads c = (effect_of ws (reads ++ cell_words c) (zip (cell_words c) (1 ∷ key ∷ length v ∷ packed v)), Put c)
 
-read_more : (seen : List ℕ) (k j : ℕ) → (seen ++ state_word k ∷ []) ++ map state_word (row_of (k + 1) j) ≡ seen ++ map state_word (row_of k (suc j))
-read_more seen k j = append_assoc seen (state_word k ∷ []) (map state_word (row_of (k + 1) j))
-
 -- the first free cell stands j cells after k
 takes : (ws : List ℕ) (key : ℕ) (v seen : List ℕ) (k n j : ℕ) → j < n → state_of ws (k + j) ≡ 0 → ((d : ℕ) → k ≤ d → d < k + j → state_of ws d ≢ 0) → rows.put_among ws key v seen (row_of k n) ≡ taken ws key v (seen ++ map state_word (row_of k j)) (k + j)
 takes ws key v seen k zero j few free used = absurd (omega arith)
@@ -47,7 +44,7 @@ takes ws key v seen k (suc n) (suc j) few free used =
     let next : k + 1 + j ≡ k + suc j = omega arith in
     let test : (state_of ws k == 0) ≡ false = by_test (eqb_tells (state_of ws k) 0) (used k (omega arith) (omega arith)) in
     let later = takes ws key v (seen ++ state_word k ∷ []) (k + 1) n j (omega arith) (ap (state_of ws) next ∙ free) (λ d a b. used d (omega arith) (omega arith)) in
-    rw test (later ∙ ap (λ (xs : List ℕ). taken ws key v xs (k + 1 + j)) (read_more seen k j) ∙ ap (λ c. taken ws key v (seen ++ map state_word (row_of k (suc j))) c) next)
+    rw test (later ∙ ap (λ (xs : List ℕ). taken ws key v xs (k + 1 + j)) (append_assoc seen (state_word k ∷ []) (map state_word (row_of (k + 1) j))) ∙ ap (λ c. taken ws key v (seen ++ map state_word (row_of k (suc j))) c) next)
   where
     by_test : (((state_of ws k == 0) ≡ true) × (state_of ws k ≡ 0)) ⊎ (((state_of ws k == 0) ≡ false) × (state_of ws k ≢ 0)) → state_of ws k ≢ 0 → (state_of ws k == 0) ≡ false
     by_test (inl p) h = absurd (h p.1)
@@ -57,7 +54,7 @@ takes_none : (ws : List ℕ) (key : ℕ) (v seen : List ℕ) (k n : ℕ) → ((d
 takes_none ws key v seen k zero used = ap (λ (xs : List ℕ). (effect_of ws xs [], NoCell)) (sym (append-nil seen))
 takes_none ws key v seen k (suc n) used =
     let test : (state_of ws k == 0) ≡ false = by_test (eqb_tells (state_of ws k) 0) (used k (omega arith) (omega arith)) in
-    rw test (takes_none ws key v (seen ++ state_word k ∷ []) (k + 1) n (λ d a b. used d (omega arith) (omega arith)) ∙ ap (λ (xs : List ℕ). (effect_of ws xs [], NoCell)) (read_more seen k n))
+    rw test (takes_none ws key v (seen ++ state_word k ∷ []) (k + 1) n (λ d a b. used d (omega arith) (omega arith)) ∙ ap (λ (xs : List ℕ). (effect_of ws xs [], NoCell)) (append_assoc seen (state_word k ∷ []) (map state_word (row_of (k + 1) n))))
   where
     by_test : (((state_of ws k == 0) ≡ true) × (state_of ws k ≡ 0)) ⊎ (((state_of ws k == 0) ≡ false) × (state_of ws k ≢ 0)) → state_of ws k ≢ 0 → (state_of ws k == 0) ≡ false
     by_test (inl p) h = absurd (h p.1)

@@ -1,11 +1,10 @@
 //! The anchor.
-ghost use Rattle.std.specs.Prelude.{◌≡◌, ◌≤◌, ◌<◌, ◌^◌, ℕ, length, IfOk, IfErr, IsErrOf, IfSome, IsNone};
+ghost use Rattle.std.specs.Prelude.{◌≡◌, ◌<◌, ◌^◌, ℕ, length, IfOk, IfErr, IsErrOf, IfSome, IsNone};
 ghost use Rattle.dali_store.specs.declared.store.FileName.{FileName};
 ghost use Rattle.dali_store.specs.declared.store.FileName.TheVariants.{Anchor};
-ghost use Rattle.dali_store.specs.Calls.{PassesFewer, MakesAtMost};
-ghost use Rattle.dali_store.specs.Faults.{Rose};
+ghost use Rattle.dali_store.specs.Calls.{MakesAtMost};
 ghost use Rattle.dali_batch.specs.Batch.{IsOpenAt};
-ghost use Rattle.dali_batch.specs.Reads.{OnlyReads};
+ghost use Rattle.dali_batch.specs.Reads.{ReadsOrFails};
 ghost use Rattle.dali_traces.specs.Disks.{IsAnchor};
 ghost use Rattle.dali_image.specs.Reading.{NoAnchor};
 
@@ -38,12 +37,8 @@ pub fn current<V: Store>(alloc: Global, store: &mut V) -> Result<u64, ImageError
     ensures ok { IfOk result (λ number. IfSome (V.told store.old) (λ fs. IsAnchor fs.anchor number)) }
     ensures small { IfOk result (λ number. number < 2 ^ 62) }
     ensures bad { IfErr result (λ e. (file : FileName) (at : ℕ) → e ≡ ImageError.BadImage file at → (file ≡ Anchor) × IfSome (V.told store.old) (λ fs. NoAnchor fs.anchor at)) }
-    ensures reads { OnlyReads V.told V.moment V.left_since V.may_leave store.old store.new }
-    ensures later { V.faults store.old ≤ V.faults store.new }
-    ensures fault { IsErrOf result ImageError.Fault → Rose (V.faults store.old) (V.faults store.new) }
-    ensures kept { (IsErrOf result ImageError.Fault → ⊥) → V.faults store.new ≡ V.faults store.old }
+    ensures store { ReadsOrFails V.told V.moment V.left_since V.may_leave V.faults V.lets_pass (IsErrOf result ImageError.Fault) store.old store.new }
     ensures most { MakesAtMost 2 (V.lets_pass store.old) (V.lets_pass store.new) }
-    ensures passes { PassesFewer (V.lets_pass store.old) (V.lets_pass store.new) }
 {
     let file = FileName::Anchor;
     let length = store.length(file)?;

@@ -1,10 +1,9 @@
 //! Reading an image file.
 ghost use Rattle.std.specs.Prelude.{◌≡◌, ◌≤◌, ◌<◌, ◌+◌, ◌^◌, ◌∷◌, [], ℕ, List, ◌*◌, length, take, drop, flat_map, IfOk, OnOk, IfErr, IsErrOf, IfSome};
 ghost use Rattle.dali_store.specs.declared.store.FileName.{FileName};
-ghost use Rattle.dali_store.specs.Calls.{PassesFewer, MakesAtMost};
-ghost use Rattle.dali_store.specs.Faults.{Rose};
+ghost use Rattle.dali_store.specs.Calls.{MakesAtMost};
 ghost use Rattle.dali_store.specs.Store.{file_of};
-ghost use Rattle.dali_batch.specs.Reads.{OnlyReads};
+ghost use Rattle.dali_batch.specs.Reads.{ReadsOrFails};
 ghost use Rattle.dali_traces.specs.Disks.{image_name};
 ghost use Rattle.dali_traces.specs.Places;
 ghost use Rattle.dali_record.specs.Spelling.{words_bytes};
@@ -38,12 +37,8 @@ pub fn read_header<V: Store>(store: &mut V, side: Side) -> Result<Header, ImageE
         (file ≡ image_name side) × IfSome (V.told store.old) (λ fs. NoHeading (file_of (image_name side) fs) at)) }
     ensures fits { IfOk result (λ header. IsHeader header) }
     ensures room { IsErrOf result ImageError.OutOfMemory → ⊥ }
-    ensures reads { OnlyReads V.told V.moment V.left_since V.may_leave store.old store.new }
-    ensures later { V.faults store.old ≤ V.faults store.new }
-    ensures fault { IsErrOf result ImageError.Fault → Rose (V.faults store.old) (V.faults store.new) }
-    ensures kept { (IsErrOf result ImageError.Fault → ⊥) → V.faults store.new ≡ V.faults store.old }
+    ensures store { ReadsOrFails V.told V.moment V.left_since V.may_leave V.faults V.lets_pass (IsErrOf result ImageError.Fault) store.old store.new }
     ensures most { MakesAtMost 1 (V.lets_pass store.old) (V.lets_pass store.new) }
-    ensures passes { PassesFewer (V.lets_pass store.old) (V.lets_pass store.new) }
 {
     let file = image_of(side);
     let mut bytes = [0; header::SIZE];
@@ -91,12 +86,8 @@ pub fn read_regions<V: Store>(
     ensures ok { OnOk result (IfSome (V.told store.old) (λ fs. ReadsRegions (file_of (image_name side) fs) from into.new)) }
     ensures bad { IfErr result (λ e. (file : FileName) (at : ℕ) → e ≡ ImageError.BadImage file at →
         (file ≡ image_name side) × (at ≡ 56) × IfSome (V.told store.old) (λ fs. length (file_of (image_name side) fs) < end_of from (length into.old))) }
-    ensures reads { OnlyReads V.told V.moment V.left_since V.may_leave store.old store.new }
-    ensures later { V.faults store.old ≤ V.faults store.new }
-    ensures fault { IsErrOf result ImageError.Fault → Rose (V.faults store.old) (V.faults store.new) }
-    ensures kept { (IsErrOf result ImageError.Fault → ⊥) → V.faults store.new ≡ V.faults store.old }
+    ensures store { ReadsOrFails V.told V.moment V.left_since V.may_leave V.faults V.lets_pass (IsErrOf result ImageError.Fault) store.old store.new }
     ensures most { MakesAtMost 1 (V.lets_pass store.old) (V.lets_pass store.new) }
-    ensures passes { PassesFewer (V.lets_pass store.old) (V.lets_pass store.new) }
 {
     let file = image_of(side);
     let mut bytes = vec![in alloc; 0; into.len() * region::SIZE]?;
@@ -120,12 +111,8 @@ pub fn read_region<V: Store>(
     ensures ok { IfOk result (λ words. IfSome (V.told store.old) (λ fs. ReadsRegions (file_of (image_name side) fs) region (words ∷ []))) }
     ensures bad { IfErr result (λ e. (file : FileName) (at : ℕ) → e ≡ ImageError.BadImage file at →
         (file ≡ image_name side) × (at ≡ 56) × IfSome (V.told store.old) (λ fs. length (file_of (image_name side) fs) < end_of region 1)) }
-    ensures reads { OnlyReads V.told V.moment V.left_since V.may_leave store.old store.new }
-    ensures later { V.faults store.old ≤ V.faults store.new }
-    ensures fault { IsErrOf result ImageError.Fault → Rose (V.faults store.old) (V.faults store.new) }
-    ensures kept { (IsErrOf result ImageError.Fault → ⊥) → V.faults store.new ≡ V.faults store.old }
+    ensures store { ReadsOrFails V.told V.moment V.left_since V.may_leave V.faults V.lets_pass (IsErrOf result ImageError.Fault) store.old store.new }
     ensures most { MakesAtMost 1 (V.lets_pass store.old) (V.lets_pass store.new) }
-    ensures passes { PassesFewer (V.lets_pass store.old) (V.lets_pass store.new) }
 {
     let mut words = [[0; 64]; 1];
     read_regions(alloc, store, side, region, &mut words)?;
@@ -147,12 +134,8 @@ pub fn read_table<V: Store>(
     ensures undos { IfOk result (λ att. (t : ℕ) → AreUndos (undos_at att t)) }
     ensures bad { IfErr result (λ e. (file : FileName) (at : ℕ) → e ≡ ImageError.BadImage file at →
         (file ≡ image_name side) × IfSome (V.told store.old) (λ fs. NoTable (file_of (image_name side) fs) header.now at)) }
-    ensures reads { OnlyReads V.told V.moment V.left_since V.may_leave store.old store.new }
-    ensures later { V.faults store.old ≤ V.faults store.new }
-    ensures fault { IsErrOf result ImageError.Fault → Rose (V.faults store.old) (V.faults store.new) }
-    ensures kept { (IsErrOf result ImageError.Fault → ⊥) → V.faults store.new ≡ V.faults store.old }
+    ensures store { ReadsOrFails V.told V.moment V.left_since V.may_leave V.faults V.lets_pass (IsErrOf result ImageError.Fault) store.old store.new }
     ensures most { MakesAtMost 2 (V.lets_pass store.old) (V.lets_pass store.new) }
-    ensures passes { PassesFewer (V.lets_pass store.old) (V.lets_pass store.new) }
 {
     let file = image_of(side);
     let place = place_of(header.geometry.regions());
@@ -181,12 +164,8 @@ fn part<V: Store>(
     ensures small { IfOk result (λ bytes. place + length bytes.items < 2 ^ 62) }
     ensures bad { IfErr result (λ e. (file : FileName) (at : ℕ) → e ≡ ImageError.BadImage file at →
         (file ≡ image_name side) × (at ≡ 56) × IfSome (V.told store.old) (λ fs. length (file_of (image_name side) fs) < place + size)) }
-    ensures reads { OnlyReads V.told V.moment V.left_since V.may_leave store.old store.new }
-    ensures later { V.faults store.old ≤ V.faults store.new }
-    ensures fault { IsErrOf result ImageError.Fault → Rose (V.faults store.old) (V.faults store.new) }
-    ensures kept { (IsErrOf result ImageError.Fault → ⊥) → V.faults store.new ≡ V.faults store.old }
+    ensures store { ReadsOrFails V.told V.moment V.left_since V.may_leave V.faults V.lets_pass (IsErrOf result ImageError.Fault) store.old store.new }
     ensures most { MakesAtMost 2 (V.lets_pass store.old) (V.lets_pass store.new) }
-    ensures passes { PassesFewer (V.lets_pass store.old) (V.lets_pass store.new) }
 {
     let file = image_of(side);
     let length = store.length(file)?;

@@ -183,13 +183,7 @@ changes_are ws c key v = go (cell.state_of ws c == 1) refl (cell.key_of ws c == 
 
 -- ---- the length and the value of a cell are written
 pub in_value : (c i : ℕ) → IsIn (cell.length_word c ∷ cell.value_words c) i → (8 * c + 2 ≤ i) × (i < 8 * c + 8)
-in_value c i (inl e) = (omega (arith, e), omega (arith, e))
-in_value c i (inr (inl e)) = (omega (arith, e), omega (arith, e))
-in_value c i (inr (inr (inl e))) = (omega (arith, e), omega (arith, e))
-in_value c i (inr (inr (inr (inl e)))) = (omega (arith, e), omega (arith, e))
-in_value c i (inr (inr (inr (inr (inl e))))) = (omega (arith, e), omega (arith, e))
-in_value c i (inr (inr (inr (inr (inr (inl e)))))) = (omega (arith, e), omega (arith, e))
-in_value c i (inr (inr (inr (inr (inr (inr h)))))) = absurd h
+in_value c i h = (grind (arith, h), grind (arith, h))
 
 pub value_stays : (ws : List ℕ) (c : ℕ) (news : List ℕ) (i : ℕ) → (i < 8 * c + 2) ⊎ (8 * c + 8 ≤ i) → get_or (value_written ws c news) i 0 ≡ get_or ws i 0
 value_stays ws c news i out = unwritten ws (zip (cell.length_word c ∷ cell.value_words c) news) i (λ h. let at = in_value c i (zip_within (cell.length_word c ∷ cell.value_words c) news i h) in ⊎_elim (λ a. omega (arith, at.0, a)) (λ a. omega (arith, at.1, a)) out)

@@ -97,9 +97,6 @@ added_at ws key p reads e = (effect_of ws (reads ++ entry_words e) (writes_of e 
 abbrev none_free : List ℕ → List ℕ → Effect × AddOutcome
 none_free ws reads = (effect_of ws (reads ++ 0 ∷ []) (raises ws), NoEntry)
 
-read_more : (seen : List ℕ) (k j : ℕ) → (seen ++ state_word k ∷ []) ++ map state_word (row_of (k + 1) j) ≡ seen ++ map state_word (row_of k (suc j))
-read_more seen k j = append_assoc seen (state_word k ∷ []) (map state_word (row_of (k + 1) j))
-
 adds : (ws : List ℕ) (key p : ℕ) (seen : List ℕ) (k n j : ℕ) → j < n → state_of ws (k + j) ≡ 0 → ((d : ℕ) → k ≤ d → d < k + j → state_of ws d ≢ 0) → rows.add_among ws key p seen (row_of k n) ≡ added_at ws key p (seen ++ map state_word (row_of k j)) (k + j)
 adds ws key p seen k zero j few free used = absurd (omega arith)
 adds ws key p seen k (suc n) zero few free used =
@@ -110,13 +107,13 @@ adds ws key p seen k (suc n) (suc j) few free used =
     let next : k + 1 + j ≡ k + suc j = omega arith in
     let test = ne_eqb (state_of ws k) 0 (used k (omega arith) (omega arith)) in
     let later = adds ws key p (seen ++ state_word k ∷ []) (k + 1) n j (omega arith) (ap (state_of ws) next ∙ free) (λ d a b. used d (omega arith) (omega arith)) in
-    rw test (later ∙ ap (λ (xs : List ℕ). added_at ws key p xs (k + 1 + j)) (read_more seen k j) ∙ ap (λ e. added_at ws key p (seen ++ map state_word (row_of k (suc j))) e) next)
+    rw test (later ∙ ap (λ (xs : List ℕ). added_at ws key p xs (k + 1 + j)) (append_assoc seen (state_word k ∷ []) (map state_word (row_of (k + 1) j))) ∙ ap (λ e. added_at ws key p (seen ++ map state_word (row_of k (suc j))) e) next)
 
 adds_none : (ws : List ℕ) (key p : ℕ) (seen : List ℕ) (k n : ℕ) → ((d : ℕ) → k ≤ d → d < k + n → state_of ws d ≢ 0) → rows.add_among ws key p seen (row_of k n) ≡ none_free ws (seen ++ map state_word (row_of k n))
 adds_none ws key p seen k zero used = ap (λ (xs : List ℕ). none_free ws xs) (sym (append-nil seen))
 adds_none ws key p seen k (suc n) used =
     let test = ne_eqb (state_of ws k) 0 (used k (omega arith) (omega arith)) in
-    rw test (adds_none ws key p (seen ++ state_word k ∷ []) (k + 1) n (λ d a b. used d (omega arith) (omega arith)) ∙ ap (λ (xs : List ℕ). none_free ws xs) (read_more seen k n))
+    rw test (adds_none ws key p (seen ++ state_word k ∷ []) (k + 1) n (λ d a b. used d (omega arith) (omega arith)) ∙ ap (λ (xs : List ℕ). none_free ws xs) (append_assoc seen (state_word k ∷ []) (map state_word (row_of (k + 1) n))))
 
 add_first : (ws : List ℕ) (key p e : ℕ) → e ≤ 20 → state_of ws e ≡ 0 → ((d : ℕ) → d < e → state_of ws d ≢ 0) → rows.add ws key p ≡ added_at ws key p (states_before e) e
 unfolding entries

@@ -1,5 +1,5 @@
--- Places of a list, its front and its end.
-use Rattle.std.proofs.Common.{◌≡◌, ◌≢◌, ℕ, zero, suc, ◌+◌, ◌<◌, ◌≤◌, Bool, true, false, cond, List, [], ◌∷◌, ◌++◌, length, take, drop, get_or, filter, map, Some, ◌⊎◌, inl, inr, ⊎_elim, refl, ap, sym, ◌∙◌, arith}
+-- Places of a list, its front and its end, and two lists element by element.
+use Rattle.std.proofs.Common.{◌≡◌, ◌≢◌, ℕ, zero, suc, ◌+◌, ◌<◌, ◌≤◌, Bool, true, false, cond, List, [], ◌∷◌, ◌++◌, length, take, drop, get_or, filter, map, Some, ◌⊎◌, inl, inr, ⊎_elim, refl, ap, sym, subst, ◌∙◌, arith}
 use Rattle.std.specs.Prelude.{slice_get, slice_set}
 use Rattle.std.proofs.lemmas.List.{length-map}
 
@@ -72,6 +72,26 @@ set_cases (z ∷ xs) zero y zero x e = inl (refl, cc)
 set_cases (z ∷ xs) zero y (suc j) x e = inr (λ f. absurd (omega (arith, f)), e)
 set_cases (z ∷ xs) (suc i) y zero x e = inr (λ f. absurd (omega (arith, f)), e)
 set_cases (z ∷ xs) (suc i) y (suc j) x e = ⊎_elim (λ p. inl (ap suc p.0, p.1)) (λ p. inr (λ f. p.0 (omega (arith, f)), p.1)) (set_cases xs i y j x e)
+
+-- ---- element by element
+-- each one of the second list has become of the one of the first at its place
+abbrev pub EachFrom : {X : Type 0} → (X → X → Type 0) → List X → List X → Type 0
+EachFrom {X} R xs ys = (i : ℕ) (y : X) → slice_get ys i ≡ Some y → (x : X) × (slice_get xs i ≡ Some x) × R x y
+
+pub each_same : {X : Type 0} (R : X → X → Type 0) (xs : List X) → ((x : X) → R x x) → EachFrom R xs xs
+each_same R xs same i y e = (y, e, same y)
+
+pub each_set : {X : Type 0} (R : X → X → Type 0) (xs : List X) (i : ℕ) (x y : X) → ((z : X) → R z z) → slice_get xs i ≡ Some x → R x y → EachFrom R xs (slice_set xs i y)
+each_set R xs i x y same at is j z e = ⊎_elim
+    (λ here. (x, ap (slice_get xs) here.0 ∙ at, subst (R x) (sym here.1) is))
+    (λ there. (z, there.1, same z))
+    (set_cases xs i y j z e)
+
+pub each_then : {X : Type 0} (R : X → X → Type 0) (xs ys zs : List X) → ((x y z : X) → R x y → R y z → R x z) → EachFrom R xs ys → EachFrom R ys zs → EachFrom R xs zs
+each_then R xs ys zs join one two i z e =
+    let y = two i z e in
+    let x = one i y.0 y.1 in
+    (x.0, x.1, join x.0 y.0 z x.2 y.2)
 
 -- ---- front and end
 pub push-not_nil : {X : Type 0} (xs : List X) (x : X) → xs ++ x ∷ [] ≡ [] → ⊥

@@ -2,15 +2,6 @@
 use Rattle.std.proofs.Common.{◌≡◌, Bool, true, false, not}
 use Rattle.std.specs.Prelude.{Option, Some, None, IfNone, Result, Ok, Err, OnOk, OnErr}
 
-module _ {T E : Type 0} {P Q : Type 0} where
-  pub on_ok : (r : Result T E) → (P → Q) → OnOk r P → OnOk r Q
-  on_ok (Ok x) f p = f p
-  on_ok (Err e) f p = tt
-
-  pub on_err : (r : Result T E) → (P → Q) → OnErr r P → OnErr r Q
-  on_err (Ok x) f p = tt
-  on_err (Err e) f p = f p
-
 pub on_either : {T E P Q A : Type 0} (r : Result T E) → OnOk r P → OnErr r Q → (P → A) → (Q → A) → A
 on_either (Ok x) p q f g = f p
 on_either (Err e) p q f g = g q

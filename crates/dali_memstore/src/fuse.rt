@@ -1,7 +1,7 @@
 //! A store that passes so many calls on, and fails those that follow.
-ghost use Rattle.std.specs.Prelude.{◌≡◌, ◌≢◌, ◌≤◌, ◌<◌, ◌+◌, ◌^◌, ◌↔◌, Option, Some, None, List, ℕ, length, IfOk, OnOk, IfSome, is_some, IsTrue, if◌then◌else◌};
+ghost use Rattle.std.specs.Prelude.{◌≡◌, ◌≢◌, ◌≤◌, ◌<◌, ◌+◌, ◌^◌, ◌↔◌, Option, Some, None, List, ℕ, length, IfOk, IsErr, OnOk, OnErr, IfSome, is_some, IsTrue};
 ghost use Rattle.dali_store.specs.Calls.{one_less};
-ghost use Rattle.dali_store.specs.Faults.{Rose, HasCause};
+ghost use Rattle.dali_store.specs.Faults.{HasCause};
 ghost use Rattle.dali_store.specs.Store.{Files, file_of, Only, Follows, TornIn, TornTold, HoldsIn, ReadsAt, Elapses};
 ghost use Rattle.dali_memstore.specs.Fuse.{Burns, PassesOn, inner, passes_of, failed_by, failed_of, forgetful};
 ghost use Rattle.dali_memstore.specs.Counts.{one_more};
@@ -84,24 +84,25 @@ impl<V: Store> Fuse<V> {
         self.passes = self.passes.map(|left| left.saturating_sub(1));
     }
 
-    // Counts a call that is failed, where no more calls are passed on; else uses one of them up.
-    fn blows(&mut self) -> bool
-        ensures blown { IsTrue result ↔ (passes_of self.old ≡ Some 0) }
+    // Uses up one of the calls to pass on. Where none is left, the call is failed, and counted.
+    fn burn(&mut self) -> Result<(), StoreFault>
+        ensures blown { IsErr result ↔ (passes_of self.old ≡ Some 0) }
         ensures inner { inner self.new ≡ inner self.old }
         ensures passes { passes_of self.new ≡ one_less (passes_of self.old) }
-        ensures failed { failed_of self.new ≡ (if result then one_more (failed_of self.old) else failed_of self.old) }
-        ensures later { V.faults (inner self.old) + failed_of self.old ≤ V.faults (inner self.new) + failed_of self.new }
-        ensures rose { IsTrue result → Rose (V.faults (inner self.old) + failed_of self.old) (V.faults (inner self.new) + failed_of self.new) }
+        ensures kept { OnOk result (failed_of self.new ≡ failed_of self.old) }
+        ensures failed { OnErr result (failed_of self.new ≡ one_more (failed_of self.old)) }
+        ensures cause { HasCause (V.faults (inner self.old) + failed_of self.old) (V.faults (inner self.new) + failed_of self.new) result }
     {
         if self.passes == Some(0) {
             self.failed = self.failed.saturating_add(1);
-            return true;
+            return Err(StoreFault);
         }
         self.use_up();
-        false
+        Ok(())
     }
 }
 
+// The clauses `burns` and `passed` say what the trait says of the calls left, and more.
 impl<V: Store> Store for Fuse<V> {
     ghost use Rattle.std.specs.Prelude.{◌+◌};
 
@@ -139,11 +140,8 @@ impl<V: Store> Store for Fuse<V> {
         ensures crash { (c : Files) → V.may_leave (inner self.new) c → V.may_leave (inner self.old) c }
         ensures time { Elapses (V.moment (inner self.old)) (V.moment (inner self.new)) (V.left_since (inner self.old)) (V.left_since (inner self.new)) (V.may_leave (inner self.new)) }
         ensures cause { HasCause (V.faults (inner self.old) + failed_of self.old) (V.faults (inner self.new) + failed_of self.new) result }
-        ensures calls { passes_of self.new ≡ one_less (passes_of self.old) }
     {
-        if self.blows() {
-            return Err(StoreFault);
-        }
+        self.burn()?;
         self.store.length(file)
     }
 
@@ -155,11 +153,8 @@ impl<V: Store> Store for Fuse<V> {
         ensures crash { (c : Files) → V.may_leave (inner self.new) c → V.may_leave (inner self.old) c }
         ensures time { Elapses (V.moment (inner self.old)) (V.moment (inner self.new)) (V.left_since (inner self.old)) (V.left_since (inner self.new)) (V.may_leave (inner self.new)) }
         ensures cause { HasCause (V.faults (inner self.old) + failed_of self.old) (V.faults (inner self.new) + failed_of self.new) result }
-        ensures calls { passes_of self.new ≡ one_less (passes_of self.old) }
     {
-        if self.blows() {
-            return Err(StoreFault);
-        }
+        self.burn()?;
         self.store.read_at(file, at, into)
     }
 
@@ -172,11 +167,8 @@ impl<V: Store> Store for Fuse<V> {
         ensures crash { Follows (TornIn file at (length bytes.now)) (V.may_leave (inner self.old)) (V.may_leave (inner self.new)) }
         ensures time { Elapses (V.moment (inner self.old)) (V.moment (inner self.new)) (V.left_since (inner self.old)) (V.left_since (inner self.new)) (V.may_leave (inner self.new)) }
         ensures cause { HasCause (V.faults (inner self.old) + failed_of self.old) (V.faults (inner self.new) + failed_of self.new) result }
-        ensures calls { passes_of self.new ≡ one_less (passes_of self.old) }
     {
-        if self.blows() {
-            return Err(StoreFault);
-        }
+        self.burn()?;
         self.store.write_at(file, at, bytes)
     }
 
@@ -187,11 +179,8 @@ impl<V: Store> Store for Fuse<V> {
         ensures crash { (c : Files) → V.may_leave (inner self.new) c → V.may_leave (inner self.old) c }
         ensures time { Elapses (V.moment (inner self.old)) (V.moment (inner self.new)) (V.left_since (inner self.old)) (V.left_since (inner self.new)) (V.may_leave (inner self.new)) }
         ensures cause { HasCause (V.faults (inner self.old) + failed_of self.old) (V.faults (inner self.new) + failed_of self.new) result }
-        ensures calls { passes_of self.new ≡ one_less (passes_of self.old) }
     {
-        if self.blows() {
-            return Err(StoreFault);
-        }
+        self.burn()?;
         self.store.sync(file)
     }
 
@@ -204,7 +193,6 @@ impl<V: Store> Store for Fuse<V> {
         ensures crash { (c : Files) → V.may_leave (inner self.new) c → V.may_leave (inner self.old) c }
         ensures time { Elapses (V.moment (inner self.old)) (V.moment (inner self.new)) (V.left_since (inner self.old)) (V.left_since (inner self.new)) (V.may_leave (inner self.new)) }
         ensures cause { HasCause (V.faults (inner self.old) + failed_of self.old) (V.faults (inner self.new) + failed_of self.new) result }
-        ensures calls { passes_of self.new ≡ one_less (passes_of self.old) }
     {
         self.use_up();
         self.store.cut(choice)

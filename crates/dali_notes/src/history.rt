@@ -278,17 +278,11 @@ fn close<E, C: Counted>(board: &Board<E>, mut notes: Vec<Note<E>>)
 fn crosses_threads<E>(notes: &Notes<E>, note: Note<E>) -> Note<E>
     ensures { result ≡ note }
 {
-    sent(shared(notes, note))
+    crosses(notes, note)
 }
 
-fn shared<T: Sync, U>(_: &T, other: U) -> U
-    ensures { result ≡ other }
+fn crosses<T: Sync, U: Send>(_: &T, given: U) -> U
+    ensures { result ≡ given }
 {
-    other
-}
-
-fn sent<T: Send>(value: T) -> T
-    ensures { result ≡ value }
-{
-    value
+    given
 }

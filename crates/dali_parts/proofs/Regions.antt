@@ -57,14 +57,7 @@ region_misses base e (AuditClean b) r g run off clean may = RegionRun-off base e
 region_misses base e (AuditFail b rs) r g run off clean may = RegionRun-off base e (AuditFail b rs) r g run off (certified_fail e b r rs g clean run.certified)
 region_misses base e (Format i h) r g run off clean may = absurd may
 region_misses base e (Restarted rs ds) r g run off clean may = absurd may
-region_misses base e (Begin t) r g run off clean may = RegionRun-other base e (Begin t) r g run off refl clean
-region_misses base e (Forward t b) r g run off clean may = RegionRun-other base e (Forward t b) r g run off refl clean
-region_misses base e (Done t k a) r g run off clean may = RegionRun-other base e (Done t k a) r g run off refl clean
-region_misses base e (Commit t) r g run off clean may = RegionRun-other base e (Commit t) r g run off refl clean
-region_misses base e (Ended t) r g run off clean may = RegionRun-other base e (Ended t) r g run off refl clean
-region_misses base e (Solo t p b) r g run off clean may = RegionRun-other base e (Solo t p b) r g run off refl clean
-region_misses base e AuditBegin r g run off clean may = RegionRun-other base e AuditBegin r g run off refl clean
-region_misses base e (Back t b) r g run off clean may = RegionRun-other base e (Back t b) r g run off refl clean
+region_misses base e x r g run off clean may = RegionRun-other base e x r g run off refl clean
 
 -- ---- a step of a core
 
@@ -78,47 +71,6 @@ get_same (w ∷ xs) (suc r) x y z e f = get_same xs r x y z e f
 
 abbrev regions_of : CoreState → List RegionState
 regions_of c = c.regions
-
--- one region is set, where P holds of it
-here_or_left : (old new : List RegionState) (q r : ℕ) (P : RegionState → Type 0) (k g h j : RegionState) → new ≡ slice_set old q k → slice_get old q ≡ Some j → P j → (change : RegionState → RegionState) → k ≡ change j
-    → slice_get old r ≡ Some g → slice_get new r ≡ Some h
-    → WhereHere (q == r) g (P g) (change g) h
-here_or_left old new q r P k g h j is at holds change by e f = by_test (q == r) refl
-  where
-    by_test : (b : Bool) → (q == r) ≡ b → WhereHere b g (P g) (change g) h
-    by_test true same =
-        let place : q ≡ r = eqb-true q r same in
-        let was : j ≡ g = some_same (sym at ∙ (ap (slice_get old) place ∙ e)) in
-        (subst P was holds, get_same old q k j h at (ap (slice_get (slice_set old q k)) place ∙ (ap (λ l. slice_get l r) (sym is) ∙ f)) ∙ (by ∙ ap change was))
-    by_test false apart = some_same (sym f ∙ (ap (λ l. slice_get l r) is ∙ (get_other old q k r apart ∙ e)))
-
-left_region : (old new : List RegionState) (r : ℕ) (g h : RegionState) → new ≡ old → slice_get old r ≡ Some g → slice_get new r ≡ Some h → h ≡ g
-left_region old new r g h is e f = some_same (sym f ∙ (ap (λ l. slice_get l r) is ∙ e))
-
-pub step_has_region : StepHasRegion
-step_has_region L M c d (Operates t b) r g h s e f = here_or_left c.regions d.regions b.region r (λ q. IsOpen q t b) (touched s.0) g h s.0 (ap regions_of s.3.1) s.2.at s.2.is_open touched refl e f
-step_has_region L M c d (TakesBack t b) r g h s e f = here_or_left c.regions d.regions b.region r (λ q. IsOpen q t b) (touched s.0) g h s.0 (ap regions_of s.2.1) s.1.at s.1.is_open touched refl e f
-step_has_region L M c d (Frees p b) r g h s e f = here_or_left c.regions d.regions b.region r (λ q. IsOpen q p b) (touched s.0) g h s.0 (ap regions_of s.2.1) s.1.at s.1.is_open touched refl e f
-step_has_region L M c d (OnRegion q x) r g h s e f = here_or_left c.regions d.regions q r (MayChange x) (region_after x s.0) g h s.0 (ap regions_of s.3.1) s.1 s.2.0 (region_after x) refl e f
-step_has_region L M c d (Passes b q) r g h s e f = here_or_left c.regions d.regions q r (λ j. ⊤) (checked s.0) g h s.0 (ap regions_of s.2.1) s.1 tt checked refl e f
-step_has_region L M c d (Dies t (Some q)) r g h s e f = here_or_left c.regions d.regions q r IsLive (dead region.0) g h region.0 (ap regions_of s.1.1 ∙ dead_at c.regions q region.0 region.1) region.1 (live_hold region.0 held.0 region.2 held.3) dead refl e f
-  where
-    held : (w : Hold) × (hold_of c q ≡ Some w) × (w.txn ≡ t) × (w.dead ≡ false)
-    held = s.0.latched.held q refl
-
-    region : (j : RegionState) × (slice_get c.regions q ≡ Some j) × (j.hold ≡ Some held.0)
-    region = region_with (slice_get c.regions q) held.0 held.1
-step_has_region L M c d (Recovers q) r g h s e f = here_or_left c.regions d.regions q r (λ j. IsSome j.hold) (taken_back s.0) g h s.0 (ap regions_of s.3.1) s.1 (ap is_some s.2.at) taken_back refl e f
-step_has_region L M c d (Answers t k a) r g h s e f = left_region c.regions d.regions r g h (ap regions_of s.3.1) e f
-step_has_region L M c d (Commits t) r g h s e f = left_region c.regions d.regions r g h (ap regions_of s.2.1) e f
-step_has_region L M c d (Ends t) r g h s e f = left_region c.regions d.regions r g h (ap regions_of s.2.1) e f
-step_has_region L M c d AuditBegins r g h s e f = left_region c.regions d.regions r g h (ap regions_of s.2.1) e f
-step_has_region L M c d (Locks t k m) r g h s e f = left_region c.regions d.regions r g h (ap regions_of s.2.1) e f
-step_has_region L M c d (Refuses t k m q) r g h s e f = left_region c.regions d.regions r g h (ap regions_of s.2.1) e f
-step_has_region L M c d (Claims t) r g h s e f = left_region c.regions d.regions r g h (ap regions_of s.2.1) e f
-step_has_region L M c d Takes r g h s e f = left_region c.regions d.regions r g h (ap regions_of s.1) e f
-step_has_region L M c d (Faults n) r g h s e f = left_region c.regions d.regions r g h (ap regions_of s.2.1) e f
-step_has_region L M c d _ r g h s e f = left_region c.regions d.regions r g h (ap regions_of s.1.1) e f
 
 -- ---- other regions
 abbrev Leaves : List RegionState → List RegionState → (ℕ → Bool) → Type 0
@@ -151,6 +103,36 @@ regions_leave L M c d (Claims t) s = none_leaves c.regions d.regions (ap regions
 regions_leave L M c d Takes s = none_leaves c.regions d.regions (ap regions_of s.1)
 regions_leave L M c d (Faults n) s = none_leaves c.regions d.regions (ap regions_of s.2.1)
 regions_leave L M c d _ s = none_leaves c.regions d.regions (ap regions_of s.1.1)
+
+-- ---- the region of a step
+-- one region is set, where P holds of it
+here_or_left : (old new : List RegionState) (q r : ℕ) (P : RegionState → Type 0) (k g h j : RegionState) → new ≡ slice_set old q k → slice_get old q ≡ Some j → P j → (change : RegionState → RegionState) → k ≡ change j
+    → slice_get old r ≡ Some g → slice_get new r ≡ Some h
+    → WhereHere (q == r) g (P g) (change g) h
+here_or_left old new q r P k g h j is at holds change by e f = by_test (q == r) refl
+  where
+    by_test : (b : Bool) → (q == r) ≡ b → WhereHere b g (P g) (change g) h
+    by_test true same =
+        let place : q ≡ r = eqb-true q r same in
+        let was : j ≡ g = some_same (sym at ∙ (ap (slice_get old) place ∙ e)) in
+        (subst P was holds, get_same old q k j h at (ap (slice_get (slice_set old q k)) place ∙ (ap (λ l. slice_get l r) (sym is) ∙ f)) ∙ (by ∙ ap change was))
+    by_test false apart = some_same (sym f ∙ (ap (λ l. slice_get l r) is ∙ (get_other old q k r apart ∙ e)))
+
+pub step_has_region : StepHasRegion
+step_has_region L M c d (Operates t b) r g h s e f = here_or_left c.regions d.regions b.region r (λ q. IsOpen q t b) (touched s.0) g h s.0 (ap regions_of s.3.1) s.2.at s.2.is_open touched refl e f
+step_has_region L M c d (TakesBack t b) r g h s e f = here_or_left c.regions d.regions b.region r (λ q. IsOpen q t b) (touched s.0) g h s.0 (ap regions_of s.2.1) s.1.at s.1.is_open touched refl e f
+step_has_region L M c d (Frees p b) r g h s e f = here_or_left c.regions d.regions b.region r (λ q. IsOpen q p b) (touched s.0) g h s.0 (ap regions_of s.2.1) s.1.at s.1.is_open touched refl e f
+step_has_region L M c d (OnRegion q x) r g h s e f = here_or_left c.regions d.regions q r (MayChange x) (region_after x s.0) g h s.0 (ap regions_of s.3.1) s.1 s.2.0 (region_after x) refl e f
+step_has_region L M c d (Passes b q) r g h s e f = here_or_left c.regions d.regions q r (λ j. ⊤) (checked s.0) g h s.0 (ap regions_of s.2.1) s.1 tt checked refl e f
+step_has_region L M c d (Dies t (Some q)) r g h s e f = here_or_left c.regions d.regions q r IsLive (dead region.0) g h region.0 (ap regions_of s.1.1 ∙ dead_at c.regions q region.0 region.1) region.1 (live_hold region.0 held.0 region.2 held.3) dead refl e f
+  where
+    held : (w : Hold) × (hold_of c q ≡ Some w) × (w.txn ≡ t) × (w.dead ≡ false)
+    held = s.0.latched.held q refl
+
+    region : (j : RegionState) × (slice_get c.regions q ≡ Some j) × (j.hold ≡ Some held.0)
+    region = region_with (slice_get c.regions q) held.0 held.1
+step_has_region L M c d (Recovers q) r g h s e f = here_or_left c.regions d.regions q r (λ j. IsSome j.hold) (taken_back s.0) g h s.0 (ap regions_of s.3.1) s.1 (ap is_some s.2.at) taken_back refl e f
+step_has_region L M c d x r g h s e f = some_same (sym f ∙ ((regions_leave L M c d x s).1 r refl ∙ e))
 
 -- ---- each step
 -- the epoch of a log with one record more

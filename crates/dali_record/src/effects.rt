@@ -3,12 +3,12 @@ ghost use Rattle.std.specs.Prelude.{◌≡◌, ◌≤◌, None, []};
 ghost use Rattle.dali_heap.specs.Rows as heap;
 ghost use Rattle.dali_index.specs.Rows as index;
 ghost use Rattle.dali_record.specs.Spelling.{IsOperation, IsBlock};
-ghost use Rattle.dali_record.specs.Blocks.{made};
+ghost use Rattle.dali_record.specs.Blocks.{made, pending};
 ghost use Rattle.dali_record.specs.Operations as table;
 ghost use Rattle.dali_record.specs.Operations.{EffectByReads};
 
 use crate::lists::Words;
-use crate::operations::{Block, Op, Outcome, Undo};
+use crate::operations::{Block, Op, Outcome, Pending, Undo};
 use dali_heap::{ChangeOutcome, PutOutcome, ReadOutcome};
 use dali_index::{AddOutcome, LookOutcome};
 use dali_words::{Effect, KillOutcome, Value, xor_under};
@@ -325,6 +325,17 @@ impl Block {
         let mut block = Block::blank();
         block.make(op, key, region, words);
         block
+    }
+
+    /// An undo of the block, with its item and region. Takes no memory.
+    pub fn pending(&self, undo: Undo) -> Pending
+        ensures { result ≡ pending self.now undo }
+    {
+        Pending {
+            key: self.key,
+            region: self.region,
+            undo,
+        }
     }
 }
 

@@ -1,5 +1,5 @@
 //! The state of a restart between two records.
-ghost use Rattle.std.specs.Prelude.{◌≡◌, ◌↔◌, ◌≤◌, ◌^◌, ◌||◌, ◌==◌, ◌<◌, ◌+◌, ℕ, true, false, max, nat_lt, length, None, OnOk, OnErr, IfOk, IfErr};
+ghost use Rattle.std.specs.Prelude.{◌≡◌, ◌⊎◌, ◌↔◌, ◌≤◌, ◌^◌, ◌||◌, ◌==◌, ◌<◌, ◌+◌, ℕ, true, false, max, nat_lt, length, None, OnOk, OnErr, IfOk, IfErr};
 ghost use Rattle.std.specs.List.{list_all};
 ghost use Rattle.dali_geometry.specs.Sizes.{Sizes};
 ghost use Rattle.dali_geometry.specs.Places as places;
@@ -12,7 +12,7 @@ ghost use Rattle.dali_resume.specs.Tests.{next_behind as number_behind, same_num
 ghost use Rattle.dali_taint.specs.Tables.{has_number};
 ghost use Rattle.dali_redo.specs.Redoing.{AreUndos, MayUndo, is_tested};
 ghost use Rattle.dali_recovery.specs.Standing.{Starts, Stands, StandsOn, Scans, Takes, Fails, Makes, Refuses, Finds, FindsDeleted, Tells, TellsDamage, Begins, EndsScanned, IsRecovered, HandsLists, HandsOn, EndFails, IsOrdered, KeepsOrder, IsOrderedOut, MakesOrdered, Passes, Reopens, Ascend, passed, is_unscanned as unscanned};
-ghost use Rattle.dali_recovery.specs.declared.error.RecoveryError.TheVariants.{OutOfMemory};
+ghost use Rattle.dali_recovery.specs.declared.error.RecoveryError.TheVariants.{Misfit, OutOfMemory};
 
 use crate::error::RecoveryError;
 use crate::scan::Scan;
@@ -193,6 +193,17 @@ impl Recovery {
         self.restarted = false;
     }
 
+    // Whether a record within the epoch may follow: none does behind an audit that failed.
+    fn goes_on(&self) -> Result<(), RecoveryError>
+        ensures ok { OnOk result (self.now.failed ≡ false) }
+        ensures err { IfErr result (λ e. (e ≡ Misfit) × (self.now.failed ≡ true)) }
+    {
+        if self.failed {
+            return Err(RecoveryError::Misfit);
+        }
+        Ok(())
+    }
+
     // Takes a record of a transaction.
     fn take_again(&mut self, logged: &Record) -> Result<(), RecoveryError>
         requires undo { MayUndo logged.now }
@@ -202,9 +213,7 @@ impl Recovery {
         ensures scanned { OnOk result (EndsScanned self.old logged.now) }
         ensures err { IfErr result (λ e. Fails self.old self.new logged.now e) }
     {
-        if self.failed {
-            return Err(RecoveryError::Misfit);
-        }
+        self.goes_on()?;
         make(&mut self.redo, &mut self.scan, self.number, logged)?;
         self.pass(logged);
         Ok(())
@@ -218,9 +227,7 @@ impl Recovery {
         ensures scanned { OnOk result (EndsScanned self.old logged.now) }
         ensures err { IfErr result (λ e. Fails self.old self.new logged.now e) }
     {
-        if self.failed {
-            return Err(RecoveryError::Misfit);
-        }
+        self.goes_on()?;
         note(&mut self.audits, self.number)?;
         self.pass(logged);
         Ok(())
@@ -233,6 +240,18 @@ impl Recovery {
         self.audits.contains(&begin) || begin < self.image
     }
 
+    // Whether the end of an audit that began there may follow.
+    fn may_end(&self, begin: u64) -> Result<(), RecoveryError>
+        ensures ok { OnOk result ((self.now.failed ≡ false) × ((has_number self.now.audits begin || nat_lt begin self.now.image) ≡ true)) }
+        ensures err { IfErr result (λ e. (e ≡ Misfit) × ((self.now.failed ≡ true) ⊎ ((has_number self.now.audits begin || nat_lt begin self.now.image) ≡ false))) }
+    {
+        self.goes_on()?;
+        if !self.ends_audit(begin) {
+            return Err(RecoveryError::Misfit);
+        }
+        Ok(())
+    }
+
     // Takes the end of an audit that found no damage.
     fn end_audit(&mut self, logged: &Record, begin: u64) -> Result<(), RecoveryError>
         requires { logged.now ≡ AuditClean begin }
@@ -241,12 +260,7 @@ impl Recovery {
         ensures scanned { OnOk result (EndsScanned self.old logged.now) }
         ensures err { IfErr result (λ e. Fails self.old self.new logged.now e) }
     {
-        if self.failed {
-            return Err(RecoveryError::Misfit);
-        }
-        if !self.ends_audit(begin) {
-            return Err(RecoveryError::Misfit);
-        }
+        self.may_end(begin)?;
         let clean = later(self.clean, begin);
         self.pass(logged);
         self.clean = clean;
@@ -266,12 +280,7 @@ impl Recovery {
         ensures scanned { OnOk result (EndsScanned self.old logged.now) }
         ensures err { IfErr result (λ e. Fails self.old self.new logged.now e) }
     {
-        if self.failed {
-            return Err(RecoveryError::Misfit);
-        }
-        if !self.ends_audit(begin) {
-            return Err(RecoveryError::Misfit);
-        }
+        self.may_end(begin)?;
         if !are_regions(self.geometry, regions) {
             return Err(RecoveryError::Misfit);
         }
@@ -420,7 +429,7 @@ impl Recovery {
         ensures ordered { OnOk result (KeepsOrder self.old self.new) }
         ensures err { IfErr result (λ e. (e ≡ OutOfMemory) × (self.new ≡ self.old)) }
     {
-        let scan = Scan::new(self.alloc, self.geometry, clean, failing, self.redo.table())?;
+        let scan = Scan::new(self.alloc, self.geometry, clean, failing, &self.redo)?;
         self.scan = Some(scan);
         Ok(())
     }

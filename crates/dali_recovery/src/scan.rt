@@ -11,9 +11,8 @@ ghost use Rattle.dali_recovery.specs.Standing.{FollowsBy, JudgedBy, Makes, Makes
 ghost use Rattle.dali_recovery.specs.declared.error.RecoveryError.TheVariants.{OutOfMemory};
 
 use crate::error::RecoveryError;
-use dali_att::Att;
 use dali_geometry::Geometry;
-use dali_record::{Pending, Record};
+use dali_record::Record;
 use dali_redo::Redo;
 use dali_taint::{Judgement, Taint};
 use std::alloc::{AllocError, Global};
@@ -53,19 +52,19 @@ fn are_same(these: &[u32], those: &[u32]) -> bool
 }
 
 impl Scan {
-    /// Before the first record of an epoch, or behind an image within one, with this table. It takes memory.
+    /// Before the first record of an epoch, or behind an image within one, with the table of what is made again. It takes memory.
     pub fn new(
         alloc: Global,
         geometry: Geometry,
         clean: u64,
         failing: &[u32],
-        att: &Att<Pending>,
+        redo: &Redo,
     ) -> Result<Scan, AllocError>
         ensures assumes { IfOk result (λ z. (z.clean ≡ clean) × (z.failing.items ≡ failing.now)) }
-        ensures follows { (k : Known) (d : Damage) → d.clean ≡ clean → d.failing ≡ failing.now → BeginsTables d k att.now → IfOk result (λ z. FollowsBy geometry (Some z) d.first k) }
+        ensures follows { (k : Known) (d : Damage) → d.clean ≡ clean → d.failing ≡ failing.now → BeginsTables d k redo.now.table → IfOk result (λ z. FollowsBy geometry (Some z) d.first k) }
     {
         Ok(Scan {
-            taint: Taint::new(alloc, geometry, clean, failing, att)?,
+            taint: Taint::new(alloc, geometry, clean, failing, redo.table())?,
             clean,
             failing: Vec::from_slice(alloc, failing)?,
         })

@@ -5,11 +5,7 @@ use Rattle.dali_words.specs.Words.{write_under, has_first}
 use Rattle.dali_heap.specs.Cells as cell
 use Rattle.dali_index.specs.Entries as entry
 
--- no set, or no words for it
-pub write_nothing : (news ws : List ℕ) → write_under 0 news ws ≡ ws
-write_nothing news [] = refl
-write_nothing news (w ∷ ws) = ap (λ us. w ∷ us) (write_nothing news ws)
-
+-- no words for the set
 pub write_none : (m : ℕ) (ws : List ℕ) → write_under m [] ws ≡ ws
 write_none m [] = refl
 write_none m (w ∷ ws) = by_test (write_none (m / 2) ws) (has_first m)

@@ -21,7 +21,7 @@ use Rattle.dali_att.specs.Table.{Table, coded_row, state_at, undos_at}
 use Rattle.dali_record.specs.contracts.operations.Pending.{the_row as pending_row}
 use Rattle.dali_record.specs.declared.operations.Pending.{Pending}
 use Rattle.dali_record.specs.declared.records.Record.{Record}
-use Rattle.dali_record.specs.declared.records.Record.TheVariants.{Begin, Forward, Done, Commit, Ended, Solo, Back}
+use Rattle.dali_record.specs.declared.records.Record.TheVariants.{Forward}
 use Rattle.dali_record.specs.Damage.{any_txn}
 use Rattle.dali_record.specs.Log.{txn_of}
 use Rattle.dali_record.specs.Spelling.{IsUndo, MayBeUndo}
@@ -82,14 +82,7 @@ pub record Knows (x : Redoing) (k : Known) : Type 0 where
   pub statuses : (t : ℕ) → status_at x.table t ≡ k.statuses t
 
 abbrev pub is_tested : Record → Bool
-is_tested (Begin t) = true
-is_tested (Forward t b) = true
-is_tested (Done t c a) = true
-is_tested (Back t b) = true
-is_tested (Commit t) = true
-is_tested (Ended t) = true
-is_tested (Solo t p b) = true
-is_tested _ = false
+is_tested r = is_some (txn_of r)
 
 abbrev pub breaks : Sizes → Known → Record → Bool
 breaks s k r = is_tested r && not (allows s 0 k r)

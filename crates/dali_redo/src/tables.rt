@@ -38,14 +38,7 @@ fn add_undo(table: &mut Att<Pending>, txn: u64, block: &Block) -> Result<(), All
     if !is_active(table, txn) {
         return Ok(());
     }
-    table.push(
-        txn,
-        Pending {
-            key: block.key,
-            region: block.region,
-            undo,
-        },
-    )
+    table.push(txn, block.pending(undo))
 }
 
 // Removes the last undo of the transaction.

@@ -124,15 +124,10 @@ fn operation(region: u32, op: Op, write: u64, after: Words, undo: Option<Undo>) 
     ensures { result.undo ≡ undo }
 {
     Block {
-        key: 5,
-        region,
         op,
-        read: write,
-        xor: 0,
-        write,
-        after,
         outcome: Outcome::Undone,
         undo,
+        ..block(region, write, after)
     }
 }
 

@@ -125,7 +125,18 @@ updated_keeps g h i v b p e lt is small has = record {
         ap (bit_xor (bit_xor g.codeword (bit_xor (slice_index g.words i) v))) (parity_of-set g.words i v within) ∙ twice g.codeword (parity_of g.words) (bit_xor (slice_index g.words i) v) ∙ p.codeword
 
 pub poked_keeps : (g : RegionState) (i m : ℕ) → IsProtected g → i < 64 → m < 2 ^ 64 → IsProtected (poked i m g)
-poked_keeps g i m p lt small = by_test (is_written g i) refl
+poked_keeps g i m p lt small = record {
+  words = fits g.words p.words;
+  back = back (is_written g i);
+  codeword = law;
+  rest = rest (is_written g i) refl;
+  within = p.within;
+  all_sound = λ h. absurd (cc);
+  no_stray = λ h. absurd (cc);
+  reads = λ h. absurd (cc);
+  writes = p.writes;
+  none_missed = λ h. absurd (cc);
+}
   where
     within : i < length g.words
     within = omega (arith, p.words.0, lt)
@@ -139,31 +150,14 @@ poked_keeps g i m p lt small = by_test (is_written g i) refl
     law : bit_xor g.codeword (parity_of (damaged i m g.words)) ≡ bit_xor g.stray m
     law = ap (bit_xor g.codeword) (parity_of-set g.words i _ within) ∙ damage g.codeword (parity_of g.words) (slice_index g.words i) m ∙ ap (λ n. bit_xor n m) p.codeword
 
-    by_test : (c : Bool) → is_written g i ≡ c → IsProtected (record g { words = damaged i m g.words; back = cond c g.back (damaged i m g.back); stray = bit_xor g.stray m; poked = true })
-    by_test true e = record {
-      words = fits g.words p.words;
-      back = p.back;
-      codeword = law;
-      rest = but-set (is_written g) i _ g.words g.back e p.rest;
-      within = p.within;
-      all_sound = λ h. absurd (cc);
-      no_stray = λ h. absurd (cc);
-      reads = λ h. absurd (cc);
-      writes = p.writes;
-      none_missed = λ h. absurd (cc);
-    }
-    by_test false e = record {
-      words = fits g.words p.words;
-      back = fits g.back p.back;
-      codeword = law;
-      rest = but-both (is_written g) i m g.words g.back within within_back e p.rest;
-      within = p.within;
-      all_sound = λ h. absurd (cc);
-      no_stray = λ h. absurd (cc);
-      reads = λ h. absurd (cc);
-      writes = p.writes;
-      none_missed = λ h. absurd (cc);
-    }
+    -- the words behind, where the hold has written this one, and where it hasn't
+    back : (c : Bool) → AreWords (cond c g.back (damaged i m g.back))
+    back true = p.back
+    back false = fits g.back p.back
+
+    rest : (c : Bool) → is_written g i ≡ c → AgreeBut (is_written g) (damaged i m g.words) (cond c g.back (damaged i m g.back))
+    rest true e = but-set (is_written g) i _ g.words g.back e p.rest
+    rest false e = but-both (is_written g) i m g.words g.back within within_back e p.rest
 
 pub read_word_is_below : (g g' : RegionState) (h : Hold) (i : ℕ) → g ≡ g' → g.hold ≡ Some h → h.read < 2 ^ 64 → HasRead g' i → i < 64
 read_word_is_below g g' h i same e fits read =

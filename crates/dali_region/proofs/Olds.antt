@@ -1,14 +1,14 @@
 -- Words that are restored: those in a set as they were, all others as they stand.
-use Rattle.std.proofs.Common.{◌≡◌, ◌≢◌, ℕ, ◌+◌, ◌<◌, ◌≤◌, ◌^◌, Bool, true, false, List, [], ◌∷◌, length, cond, refl, ap, sym, subst, ◌∙◌, ◌⊎◌, inl, inr, ⊎_elim, arith, get_or, set, Option, Some, None}
+use Rattle.std.proofs.Common.{◌≡◌, ◌≢◌, ℕ, ◌+◌, ◌<◌, ◌≤◌, ◌^◌, Bool, true, false, List, length, cond, refl, ap, sym, subst, ◌∙◌, ◌⊎◌, inl, inr, ⊎_elim, arith, get_or, set, Option, Some, None}
 use Rattle.std.specs.Prelude.{not, bit_and, bit_or, bit_xor}
 use Rattle.std.proofs.lemmas.Bool.Decides.{Decides-eqb, eqb_tells}
 use Rattle.std.specs.Int.{bit_at}
 use Rattle.std.proofs.lemmas.Nat.Bits.{bit_at_or, bit_at-lt, bit_at-zero, bit_at-pow_same, bit_at-pow_other}
 use Rattle.std.proofs.lemmas.List.{length-set, ext_get_or, get_or-set_same, get_or-set_other}
 use Rattle.std.proofs.lemmas.Bool.{cases_Bool, cases_eq}
-use Rattle.dali_words.specs.Words.{under, write_under}
+use Rattle.dali_words.specs.Words.{under}
 use Rattle.dali_words.proofs.Masks.{length-write_under, write_under_other}
-use Rattle.dali_words.proofs.Writes.{write_under_in}
+use Rattle.dali_words.proofs.Writes.{write_under_in, write_nothing}
 use Rattle.dali_region.specs.declared.Hold.{Hold}
 use Rattle.dali_region.specs.State.{is_in, restored, written, has_written, kept, damaged}
 use Rattle.dali_region.proofs.Holds.{out_is_zero, zero_is_out}
@@ -40,10 +40,6 @@ restored_by m olds ws xs e long inside outside = ext_get_or 0 xs (restored m old
     each : (i : ℕ) → (is_in m i ≡ true) ⊎ (is_in m i ≡ false) → get_or xs i 0 ≡ get_or (restored m olds ws) i 0
     each i (inl h) = inside i h ∙ sym (restored_in m olds ws i e h)
     each i (inr h) = outside i h ∙ sym (restored_out m olds ws i h)
-
-pub write_nothing : (news ws : List ℕ) → write_under 0 news ws ≡ ws
-write_nothing news [] = refl
-write_nothing news (w ∷ ws) = ap (λ xs. w ∷ xs) (write_nothing news ws)
 
 pub restored_nothing : (olds ws : List ℕ) → restored 0 olds ws ≡ ws
 restored_nothing olds ws = write_nothing (under 0 olds) ws

@@ -87,6 +87,24 @@ scans_on log s F r x y n ds on z = record {
   room = on.room;
 }
 
+-- where all that was read is the front, and its last epoch has to be read again
+unscanned_on : (log : List ℕ) (s : Sizes) (F : Files) (r : Reading) (x : Recovery) (n : Counts) (on : IsOn log s F r x n) → records_on on.front on.done ≡ records_of on.front
+    → (goes_through s F (records_on on.front on.done)).known.failed ≡ true
+    → ((e : ℕ) × TailOf log F.place on.front e) ⊎ ((k : Record) × (is_restarted k ≡ true) × HasRecords log F.place on.front (k ∷ []))
+    → (u : IsUnscanned log s F) × (records_of u.front ≡ records_on on.front on.done)
+unscanned_on log s F r x n on same failed ends = (
+  record {
+    front = on.front;
+    passes = record {
+      rules = subst (λ Q. IsSome (tests s F.first (known_at F.first F.next F.table) Q)) same on.behind.passed;
+      first = front_first on.front on.done on.first;
+    };
+    failed = subst (λ (Q : List Record). (goes_through s F Q).known.failed ≡ true) same failed;
+    ends = ends;
+  },
+  sym same,
+)
+
 -- ---- one record more
 
 first_is_none : (done : List Record) → is_first done ≡ true → done ≡ []
@@ -202,18 +220,8 @@ module _ (log : List ℕ) (s : Sizes) (F : Files) (r t : Reading) (x y : Recover
       → (u : IsUnscanned log s F) × (records_of u.front ≡ records_of old)
   unscanned_there only f failed =
       let none : on.done ≡ [] = first_is_none on.done (sym h.first ∙ only f.0.0) in
-      let same : records_of old ≡ records_of on.front = ap (λ (d : List Record). records_of (so_far on.front d)) none in (
-        record {
-          front = on.front;
-          passes = record {
-            rules = subst (λ Q. IsSome (tests s F.first (known_at F.first F.next F.table) Q)) same on.behind.passed;
-            first = front_first on.front on.done on.first;
-          };
-          failed = subst (λ (Q : List Record). (goes_through s F Q).known.failed ≡ true) same failed;
-          ends = inr (g.entry, f.0.0, subst (λ (d : List Record). HasRecords log F.place on.front (d ++ g.entry ∷ [])) none (record_stands log F.place on.front on.done g t h));
-        },
-        sym same,
-      )
+      unscanned_on log s F r x n on (ap (λ (d : List Record). records_of (so_far on.front d)) none) failed
+      (inr (g.entry, f.0.0, subst (λ (d : List Record). HasRecords log F.place on.front (d ++ g.entry ∷ [])) none (record_stands log F.place on.front on.done g t h)))
 
   pub there : HasRecords log F.place on.front (on.done ++ g.entry ∷ [])
   there = record_stands log F.place on.front on.done g t h
@@ -246,19 +254,7 @@ module _ (log : List ℕ) (s : Sizes) (F : Files) (r t : Reading) (x : Recovery)
 
     pub unscanned_end : (goes_through s F (records_on on.front on.done)).known.failed ≡ true
         → (u : IsUnscanned log s F) × (records_of u.front ≡ records_on on.front on.done)
-    unscanned_end failed =
-        let same : records_on on.front on.done ≡ records_of on.front = ap records_of all_read in (
-          record {
-            front = on.front;
-            passes = record {
-              rules = subst (λ Q. IsSome (tests s F.first (known_at F.first F.next F.table) Q)) same on.behind.passed;
-              first = front_first on.front on.done on.first;
-            };
-            failed = subst (λ (Q : List Record). (goes_through s F Q).known.failed ≡ true) same failed;
-            ends = inl (t.at, w.1);
-          },
-          sym same,
-        )
+    unscanned_end failed = unscanned_on log s F r x n on (ap records_of all_read) failed (inl (t.at, w.1))
 
     pub end_there : (u : List (List Record)) × TailOf log F.place u t.at × (records_of u ≡ records_on on.front on.done)
     end_there = (on.front, w.1, sym (ap records_of all_read))

@@ -1,5 +1,5 @@
 -- What a renewal makes of the stages of a restart.
-use Rattle.std.proofs.Common.{◌≡◌, ◌≢◌, ℕ, ◌+◌, ◌<◌, ◌≤◌, ◌^◌, List, [], ◌∷◌, ◌++◌, length, Option, Some, None, refl, ap, sym, subst, ◌∙◌, inl, inr, arith}
+use Rattle.std.proofs.Common.{◌≡◌, ◌≢◌, ℕ, ◌+◌, ◌<◌, ◌≤◌, ◌^◌, List, [], ◌∷◌, ◌++◌, length, Option, Some, None, IfSome, refl, ap, sym, subst, ◌∙◌, inl, inr, arith}
 use Rattle.std.specs.Prelude.{is_some, sum_by}
 use Rattle.std.specs.List.{AllByRecursion}
 use Rattle.std.proofs.lemmas.List.{append-nil}
@@ -201,13 +201,17 @@ module _ {V : Type 0} (told : V → Option Disk) (may_leave : V → Disk → Typ
     pub renews_unlogged : (body : List ℕ) → logged ≡ None → body ≡ restart_body rs ds → LogTurns may_leave moment left_since p body words old new → Renews may_leave moment left_since p logged rs ds words old new
     renews_unlogged body none same turns L B n is names all = turns L B n is (named L body none same names) (subst (λ m. AllSpell (may_leave old) (StandsAt m L B n)) none all)
 
-    pub answers_alike : Stops may_leave moment left_since p logged rs ds words old new → AnswersAlike may_leave moment left_since p logged rs ds words old new
+    answers_alike : Stops may_leave moment left_since p logged rs ds words old new → AnswersAlike may_leave moment left_since p logged rs ds words old new
     answers_alike stops L B n history is names all = weaker moment left_since old new (SpellsSome (LeftAt logged L B n)) (SpellsSome (AnswersAs L)) (stops L B n is names all) (λ c q. (q.0, q.1, answer q.0 (any_stage logged L B n q.0 q.2)))
       where
         answer : (F : Files) → AnyStage L B n F → AnswersAs L F
         answer F (inl (inl f)) = (every_stage_answers L B n F history is.restarting).found f
         answer F (inl (inr g)) = (every_stage_answers L B n F history is.restarting).logged g
         answer F (inr t) = (every_stage_answers L B n F history is.restarting).turned t
+
+    pub answered : (o : Option Disk) → IfSome o (λ _. Stops may_leave moment left_since p logged rs ds words old new) → IfSome o (λ _. AnswersAlike may_leave moment left_since p logged rs ds words old new)
+    answered None stops = tt
+    answered (Some fs) stops = answers_alike stops
 
 -- ---- a run behind it
 pub starts_run : {V : Type 0} (may_leave : V → Disk → Type 0) → StartsRun may_leave

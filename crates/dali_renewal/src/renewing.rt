@@ -115,63 +115,6 @@ fn log_and_turn<V: Store>(
     Ok(end)
 }
 
-// Writes what a restart came to.
-fn renew_stages<V: Store>(
-    alloc: Global,
-    store: &mut V,
-    standing: &Standing,
-    logged: Option<u64>,
-    rolled_back: &[u64],
-    deleted: &[u64],
-    regions: &[[u64; 64]],
-) -> Result<u64, RenewalError>
-    requires small { (standing.now.place < 2 ^ 62) × (standing.now.current < 2 ^ 62) }
-    requires whole { length regions.now ≡ regions_of standing.now.geometry }
-    requires ascending { AreAscending rolled_back.now deleted.now }
-    requires closed { IfSome (V.told store.old) (λ _. (c : Files) → V.may_leave store.old c → IsClosedAt (end_before logged standing.now) c.log) }
-    requires anchored { IfSome (V.told store.old) (λ _. AreAnchored (V.may_leave store.old) standing.now.current) }
-    ensures end { IfOk result (λ end. end ≡ end_of logged standing.now rolled_back.now deleted.now) }
-    ensures ready { IfOk result (λ end. IfSome (V.told store.old) (λ _. AreReady (V.may_leave store.new) end (standing.now.current + 1))) }
-    ensures renews { OnOk result (IfSome (V.told store.old) (λ _. Renews V.may_leave V.moment V.left_since standing.now logged rolled_back.now deleted.now regions.now store.old store.new)) }
-    ensures stops { IfSome (V.told store.old) (λ _. Stops V.may_leave V.moment V.left_since standing.now logged rolled_back.now deleted.now regions.now store.old store.new) }
-    ensures tells { is_some (V.told store.new) ≡ is_some (V.told store.old) }
-    ensures long { IsErrOf result errors.TooLong ↔ ((logged ≡ None) × (2 ^ 30 < restart_length rolled_back.now deleted.now)) }
-    ensures untouched { (IsErrOf result errors.Fault → ⊥) → OnErr result (store.new ≡ store.old) }
-    ensures fault { IsErrOf result errors.Fault → Rose (V.faults store.old) (V.faults store.new) }
-    ensures later { V.faults store.old ≤ V.faults store.new }
-    ensures kept { (IsErrOf result errors.Fault → ⊥) → V.faults store.new ≡ V.faults store.old }
-    ensures calls { OnOk result (V.lets_pass store.new ≡ fewer (renewal_calls logged (length regions.now)) (V.lets_pass store.old)) }
-    ensures most { MakesAtMost (renewal_calls logged (length regions.now)) (V.lets_pass store.old) (V.lets_pass store.new) }
-    ensures passes { PassesFewer (V.lets_pass store.old) (V.lets_pass store.new) }
-{
-    match logged {
-        Some(end) => {
-            let mut buffer = match room_for(alloc, regions.len()) {
-                Ok(buffer) => buffer,
-                Err(error) => return Err(error),
-            };
-            match turn_image(store, standing, regions, &mut buffer) {
-                Ok(()) => Ok(end),
-                Err(StoreFault) => Err(RenewalError::Fault),
-            }
-        }
-        None => {
-            let frame = match restart_frame(alloc, rolled_back, deleted) {
-                Ok(frame) => frame,
-                Err(error) => return Err(error),
-            };
-            let mut buffer = match room_for(alloc, regions.len()) {
-                Ok(buffer) => buffer,
-                Err(error) => return Err(error),
-            };
-            match log_and_turn(store, standing, &frame, regions, &mut buffer) {
-                Ok(end) => Ok(end),
-                Err(StoreFault) => Err(RenewalError::Fault),
-            }
-        }
-    }
-}
-
 /// Writes what a restart came to, and answers where the log ends then. Where the record Restarted stands in the log already,
 /// `logged` says where the log ends behind it, and the lists aren't looked at. Else the record is added to the log with
 /// these lists of the transactions that were rolled back and deleted. Then the words of the regions are written as an image
@@ -215,13 +158,30 @@ pub fn renew<V: Store>(
     ensures most { MakesAtMost (renewal_calls logged (length regions.now)) (V.lets_pass store.old) (V.lets_pass store.new) }
     ensures passes { PassesFewer (V.lets_pass store.old) (V.lets_pass store.new) }
 {
-    renew_stages(
-        alloc,
-        store,
-        standing,
-        logged,
-        rolled_back,
-        deleted,
-        regions,
-    )
+    match logged {
+        Some(end) => {
+            let mut buffer = match room_for(alloc, regions.len()) {
+                Ok(buffer) => buffer,
+                Err(error) => return Err(error),
+            };
+            match turn_image(store, standing, regions, &mut buffer) {
+                Ok(()) => Ok(end),
+                Err(StoreFault) => Err(RenewalError::Fault),
+            }
+        }
+        None => {
+            let frame = match restart_frame(alloc, rolled_back, deleted) {
+                Ok(frame) => frame,
+                Err(error) => return Err(error),
+            };
+            let mut buffer = match room_for(alloc, regions.len()) {
+                Ok(buffer) => buffer,
+                Err(error) => return Err(error),
+            };
+            match log_and_turn(store, standing, &frame, regions, &mut buffer) {
+                Ok(end) => Ok(end),
+                Err(StoreFault) => Err(RenewalError::Fault),
+            }
+        }
+    }
 }

@@ -2,7 +2,7 @@
 ghost use Rattle.std.specs.Prelude.{◌≡◌, ◌+◌, ◌<◌, ◌≤◌, ◌^◌, [], ◌∷◌, take, drop, length, fold, IfOk, OnOk};
 ghost use Rattle.dali_record.specs.Epochs.{clean_step, failing_step};
 ghost use Rattle.dali_replay.specs.Seen.{damage_in};
-ghost use Rattle.dali_replay.specs.Marking.{block_is_first, block_mark, mark_by, marks_only, corrupt_here, corrupted};
+ghost use Rattle.dali_replay.specs.Marking.{block_is_first, mark_by, marks_only, corrupt_here, corrupted};
 
 use crate::links::{is_linked, toucher};
 use dali_record::{Block, Record};
@@ -66,26 +66,7 @@ impl<'a> Damage<'a> {
             && block.read != 0
     }
 
-    // Whether the block of `txn` behind the records is corrupt.
-    fn is_corrupt(
-        &self,
-        alloc: Global,
-        records: &[Record],
-        marks: &[bool],
-        txn: u64,
-        block: &Block,
-    ) -> Result<bool, AllocError>
-        requires number { self.now.first + length records.now < 2 ^ 64 }
-        requires marks { length marks.now ≡ length records.now }
-        ensures { IfOk result (λ corrupt. corrupt ≡ block_mark (damage_in self.now) records.now marks.now txn block.now) }
-    {
-        if self.is_first(records.len(), block) {
-            return Ok(true);
-        }
-        is_linked(alloc, records, marks, txn, block)
-    }
-
-    // Whether the record behind these is a corrupt block.
+    // Whether the record behind these is a corrupt block: a first one, or linked to one.
     fn mark(
         &self,
         alloc: Global,
@@ -98,9 +79,14 @@ impl<'a> Damage<'a> {
         ensures { IfOk result (λ corrupt. corrupt ≡ mark_by (damage_in self.now) records.now marks.now logged.now) }
     {
         match logged {
-            Record::Forward { txn, block } => self.is_corrupt(alloc, records, marks, *txn, block),
-            Record::Back { txn, block } => self.is_corrupt(alloc, records, marks, *txn, block),
-            Record::Solo { txn, block, .. } => self.is_corrupt(alloc, records, marks, *txn, block),
+            Record::Forward { txn, block }
+            | Record::Back { txn, block }
+            | Record::Solo { txn, block, .. } => {
+                if self.is_first(records.len(), block) {
+                    return Ok(true);
+                }
+                is_linked(alloc, records, marks, *txn, block)
+            }
             _ => Ok(false),
         }
     }

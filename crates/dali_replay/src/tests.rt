@@ -9,7 +9,7 @@ use std::alloc::Global;
 mod logs;
 
 use logs::{
-    ABORT, CHAIN, DAMAGED_WRITER, MISSING_AFTER_INSERT, RESTARTED, UNDONE_CHANGE,
+    ABORT, CHAIN, DAMAGED_WRITER, FIRST, MISSING_AFTER_INSERT, RESTARTED, SECOND, UNDONE_CHANGE,
     texts_spell_the_worked_logs,
 };
 
@@ -33,10 +33,19 @@ fn read_record(alloc: Global, hexadecimal: &str) -> Result<Record> {
     Ok(decode(alloc, &mut reader)?)
 }
 
-fn read_log(alloc: Global, lines: &str) -> Result<Vec<Record>> {
-    let mut log = Vec::new(alloc);
+// The records of a text, behind those that are there.
+fn read_lines(alloc: Global, lines: &str, log: &mut Vec<Record>) -> Result<()> {
     for line in lines.lines() {
         log.push(read_record(alloc, line)?)?;
+    }
+    Ok(())
+}
+
+// A log that is told by texts, one behind the other.
+fn read_log(alloc: Global, texts: [&str; 3]) -> Result<Vec<Record>> {
+    let mut log = Vec::new(alloc);
+    for lines in texts {
+        read_lines(alloc, lines, &mut log)?;
     }
     Ok(log)
 }
@@ -53,21 +62,27 @@ fn shown(alloc: Global, replay: &Replay) -> Result<String> {
 #[test]
 fn worked_logs_are_replayed(rt: HostRuntime) -> Result<()> {
     texts_spell_the_worked_logs();
-    for (lines, expected) in [
-        ("", "deleted [] agrees true"),
-        (CHAIN, "deleted [3, 5] agrees true 4 [97, 98, 99] 5 [121]"),
+    for (texts, expected) in [
+        (["", "", ""], "deleted [] agrees true"),
         (
-            UNDONE_CHANGE,
+            [FIRST, SECOND, CHAIN],
+            "deleted [3, 5] agrees true 4 [97, 98, 99] 5 [121]",
+        ),
+        (
+            [FIRST, SECOND, UNDONE_CHANGE],
             "deleted [3, 4] agrees true 4 [97, 98, 99] 5 [120, 121, 122]",
         ),
-        (DAMAGED_WRITER, "deleted [2] agrees true 4 [97, 98, 99]"),
-        (ABORT, "deleted [] agrees true"),
         (
-            MISSING_AFTER_INSERT,
+            [FIRST, "", DAMAGED_WRITER],
+            "deleted [2] agrees true 4 [97, 98, 99]",
+        ),
+        (["", "", ABORT], "deleted [] agrees true"),
+        (
+            ["", "", MISSING_AFTER_INSERT],
             "deleted [] agrees false 5 [97, 98, 99]",
         ),
     ] {
-        let log = read_log(rt.alloc(), lines)?;
+        let log = read_log(rt.alloc(), texts)?;
         let found = replay(rt.alloc(), &log)?;
         assert_eq!(rt; shown(rt.alloc(), &found)?.as_str(), expected);
     }
@@ -76,7 +91,7 @@ fn worked_logs_are_replayed(rt: HostRuntime) -> Result<()> {
 
 #[test]
 fn the_record_of_a_restart_changes_nothing(rt: HostRuntime) -> Result<()> {
-    let mut log = read_log(rt.alloc(), CHAIN)?;
+    let mut log = read_log(rt.alloc(), [FIRST, SECOND, CHAIN])?;
     log.push(read_record(rt.alloc(), RESTARTED)?)?;
     let found = replay(rt.alloc(), &log)?;
     assert_eq!(rt;

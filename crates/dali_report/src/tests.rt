@@ -193,6 +193,10 @@ fn answered(call: Call, answer: Answer) -> Said {
     Said::Answered { call, answer }
 }
 
+fn got(get: Call, value: Value) -> Said {
+    answered(get, Answer::Got { value })
+}
+
 #[test]
 fn what_clients_are_answered(rt: HostRuntime) -> Result<(), Fail> {
     let alloc = rt.alloc();
@@ -220,26 +224,11 @@ fn what_clients_are_answered(rt: HostRuntime) -> Result<(), Fail> {
     ] {
         check_said(&rt, alloc, &said, text)?;
     }
+    check_said(&rt, alloc, &got(get, value(b"`bc")?), "got `bc")?;
     check_said(
         &rt,
         alloc,
-        &answered(
-            get,
-            Answer::Got {
-                value: value(b"`bc")?,
-            },
-        ),
-        "got `bc",
-    )?;
-    check_said(
-        &rt,
-        alloc,
-        &answered(
-            get,
-            Answer::Got {
-                value: value(b"\x80t$rl|qk&")?,
-            },
-        ),
+        &got(get, value(b"\x80t$rl|qk&")?),
         "got \\x80t$rl|qk&",
     )?;
     Ok(())

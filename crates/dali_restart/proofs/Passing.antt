@@ -1,7 +1,6 @@
 -- What a pass over a disk's log begins with, and what it comes to.
-use Rattle.std.proofs.Common.{◌≡◌, ◌⊎◌, inl, inr, ⊎_elim, ℕ, zero, suc, ◌+◌, ◌<◌, ◌≤◌, ◌^◌, List, [], ◌∷◌, ◌++◌, map, Option, Some, None, IfSome, refl, ap, sym, subst, ◌∙◌, arith, rules, get_or}
+use Rattle.std.proofs.Common.{◌≡◌, ◌⊎◌, inl, inr, ⊎_elim, ℕ, ◌+◌, ◌<◌, ◌^◌, List, [], ◌∷◌, ◌++◌, map, Option, Some, None, IfSome, refl, ap, sym, subst, arith, rules}
 use Rattle.std.specs.Prelude.{Contains}
-use Rattle.std.specs.List.{AllByRecursion}
 use Rattle.std.proofs.lemmas.List.{map-append}
 use Rattle.std.proofs.lemmas.List.Elements.{Contains-append_right}
 use Rattle.dali_geometry.specs.Sizes.{Sizes}
@@ -41,11 +40,6 @@ reload_bad reloads.Fault file at h = absurd cc
 reload_bad (reloads.BadLog bad) file at h = (let is : file ≡ Log = cc in is, let is : bad ≡ at = cc in ap reloads.BadLog is)
 reload_bad reloads.Unscanned file at h = absurd cc
 reload_bad reloads.OutOfMemory file at h = absurd cc
-
--- ---- the words of regions
-pub all_below : (ws : List ℕ) → ((i : ℕ) → get_or ws i 0 < 2 ^ 64) → AllByRecursion (λ w. w < 2 ^ 64) ws
-all_below [] each = tt
-all_below (w ∷ ws) each = (each 0, all_below ws (λ i. each (suc i)))
 
 -- ---- an image
 module _ (fs : Disk) (s : Sizes) (c : ℕ) (h : Header) (image : List (List ℕ)) (m : Table Pending) (r : Reading) (x : Recovery) (opened : IsOpened fs s c h image m r) (range : IsInRange s h image m)

@@ -10,15 +10,18 @@
 --     WritesImage x r          and where it begins where that record stood there already
 --     IsSmallRest x r          its numbers are in range
 --     IsWritten                what a renewal made of the stages of a restart, and what a crash at any moment of it leaves
+--     WritesOrFails            it fails by the store exactly where the count of faults rose; where it fails otherwise nothing was written
 --     IsRestingOn M B r G      the files G have these batches, and a run may start from them over the log M, where the vault is told this end and number
 --     IsSettled, Settles       so it is of each disk that a crash may leave then, where the disk that was read spells files that are found
-use Rattle.std.specs.Prelude.{◌≡◌, ◌⊎◌, ◌<◌, ◌+◌, ◌-◌, ◌^◌, ◌==◌, ℕ, ⊤, Contains, List, Option, Some, None, Result, OnOk, IfSome, if◌then◌else◌, map, nat_le, length}
+use Rattle.std.specs.Prelude.{◌≡◌, ◌⊎◌, ◌<◌, ◌≤◌, ◌+◌, ◌-◌, ◌^◌, ◌==◌, ℕ, ⊤, Contains, List, Option, Some, None, Result, OnOk, OnErr, IfSome, is_some, if◌then◌else◌, map, nat_le, length}
 use Rattle.dali_geometry.specs.Sizes.{Sizes}
 use Rattle.dali_record.specs.declared.records.Record.{Record}
 use Rattle.dali_record.specs.Damage.{Damage}
 use Rattle.dali_record.specs.Files.{Files}
 use Rattle.dali_record.specs.Legal.{Rules}
 use Rattle.dali_history.specs.History.{IsHistory}
+use Rattle.dali_store.specs.Calls.{PassesFewer}
+use Rattle.dali_store.specs.Faults.{Rose}
 use Rattle.dali_store.specs.Store.{Files as Disk, Only}
 use Rattle.dali_batch.specs.Stream.{Reading}
 use Rattle.dali_system.specs.Run.{log_in}
@@ -147,6 +150,14 @@ module _ {V : Type 0} (told : V → Option Disk) (may_leave : V → Disk → Typ
   pub record IsWritten {T E : Type 0} (p : Standing) (logged : Option ℕ) (rs ds : List ℕ) (words : List (List ℕ)) (old new : V) (result : Result T E) : Type 0 where
     pub renews : OnOk result (IfSome (told old) (λ _. Renews may_leave moment left_since p logged rs ds words old new))
     pub stops : IfSome (told old) (λ _. Stops may_leave moment left_since p logged rs ds words old new)
+
+pub record WritesOrFails {V T E : Type 0} (told : V → Option Disk) (faults : V → ℕ) (lets_pass : V → Option ℕ) (failed : Type 0) (old new : V) (result : Result T E) : Type 0 where
+  pub untouched : (failed → ⊥) → OnErr result (new ≡ old)
+  pub tells : is_some (told new) ≡ is_some (told old)
+  pub later : faults old ≤ faults new
+  pub fault : failed → Rose (faults old) (faults new)
+  pub kept : (failed → ⊥) → faults new ≡ faults old
+  pub passes : PassesFewer (lets_pass old) (lets_pass new)
 
 -- ---- files that are found
 pub record IsRestingOn (M : List Record) (B : List (List Record)) (r : Resting) (G : Files) : Type 0 where

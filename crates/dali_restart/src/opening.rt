@@ -8,7 +8,7 @@ ghost use Rattle.dali_store.specs.Calls.{PassesFewer};
 ghost use Rattle.dali_store.specs.Faults.{Rose, HasCause};
 ghost use Rattle.dali_store.specs.Store.{Only, file_of};
 ghost use Rattle.dali_batch.specs.Batch.{IsUnformatted};
-ghost use Rattle.dali_batch.specs.Reads.{OnlyReads};
+ghost use Rattle.dali_batch.specs.Reads.{OnlyReads, ReadsOrFails};
 ghost use Rattle.dali_batch.specs.Stream.{IsWindow};
 ghost use Rattle.dali_crash.specs.Checkpoints;
 ghost use Rattle.dali_traces.specs.Disks.{IsAnchor, image_name};
@@ -118,11 +118,7 @@ fn read_words<V: Store>(
     ensures ok { IfOk result (λ words. IfSome (V.told store.old) (λ fs. ReadsRegions (file_of (image_name side) fs) 0 words.items)) }
     ensures bad { IfErr result (λ e. (file : Name) (at : ℕ) → e ≡ images.BadImage file at →
         (file ≡ image_name side) × (at ≡ 56) × IfSome (V.told store.old) (λ fs. length (file_of (image_name side) fs) < end_of 0 (regions_of geometry.now))) }
-    ensures reads { OnlyReads V.told V.moment V.left_since V.may_leave store.old store.new }
-    ensures later { V.faults store.old ≤ V.faults store.new }
-    ensures fault { IsErrOf result images.Fault → Rose (V.faults store.old) (V.faults store.new) }
-    ensures kept { (IsErrOf result images.Fault → ⊥) → V.faults store.new ≡ V.faults store.old }
-    ensures passes { PassesFewer (V.lets_pass store.old) (V.lets_pass store.new) }
+    ensures store { ReadsOrFails V.told V.moment V.left_since V.may_leave V.faults V.lets_pass (IsErrOf result images.Fault) store.old store.new }
 {
     let mut words = vec![in alloc; [0; 64]; geometry.regions() as usize]?;
     match read_regions(alloc, store, side, 0, &mut words) {
@@ -143,11 +139,7 @@ fn read_checked<V: Store>(
     ensures ok { IfOk result (λ header. IfSome (V.told store.old) (λ fs. HasHeading (file_of (image_name side) fs) header)) }
     ensures bad { IfErr result (λ e. (file : Name) (at : ℕ) → e ≡ images.BadImage file at →
         (file ≡ image_name side) × IfSome (V.told store.old) (λ fs. BadImageAt (file_of (image_name side) fs) expected.now at)) }
-    ensures reads { OnlyReads V.told V.moment V.left_since V.may_leave store.old store.new }
-    ensures later { V.faults store.old ≤ V.faults store.new }
-    ensures fault { IsErrOf result images.Fault → Rose (V.faults store.old) (V.faults store.new) }
-    ensures kept { (IsErrOf result images.Fault → ⊥) → V.faults store.new ≡ V.faults store.old }
-    ensures passes { PassesFewer (V.lets_pass store.old) (V.lets_pass store.new) }
+    ensures store { ReadsOrFails V.told V.moment V.left_since V.may_leave V.faults V.lets_pass (IsErrOf result images.Fault) store.old store.new }
 {
     match read_header(store, side) {
         Ok(header) => match header.check(side, expected) {
@@ -169,11 +161,7 @@ fn read_image<V: Store>(
     ensures in_range { IfOk result (λ image. IsInRange expected.now.geometry image.header image.regions.items image.table) }
     ensures bad { IfErr result (λ e. (file : Name) (at : ℕ) → e ≡ images.BadImage file at →
         (file ≡ image_name side) × IfSome (V.told store.old) (λ fs. BadImageAt (file_of (image_name side) fs) expected.now at)) }
-    ensures reads { OnlyReads V.told V.moment V.left_since V.may_leave store.old store.new }
-    ensures later { V.faults store.old ≤ V.faults store.new }
-    ensures fault { IsErrOf result images.Fault → Rose (V.faults store.old) (V.faults store.new) }
-    ensures kept { (IsErrOf result images.Fault → ⊥) → V.faults store.new ≡ V.faults store.old }
-    ensures passes { PassesFewer (V.lets_pass store.old) (V.lets_pass store.new) }
+    ensures store { ReadsOrFails V.told V.moment V.left_since V.may_leave V.faults V.lets_pass (IsErrOf result images.Fault) store.old store.new }
 {
     let header = match read_checked(store, side, expected) {
         Ok(header) => header,
@@ -207,11 +195,7 @@ fn current_image<V: Store>(
     ensures long { IsErrOf result errors.TooLong → ⊥ }
     ensures steady { IsErrOf result errors.Unsteady → ⊥ }
     ensures unformatted { IsErrOf result errors.Unformatted → ⊥ }
-    ensures reads { OnlyReads V.told V.moment V.left_since V.may_leave store.old store.new }
-    ensures later { V.faults store.old ≤ V.faults store.new }
-    ensures fault { IsErrOf result errors.Fault → Rose (V.faults store.old) (V.faults store.new) }
-    ensures kept { (IsErrOf result errors.Fault → ⊥) → V.faults store.new ≡ V.faults store.old }
-    ensures passes { PassesFewer (V.lets_pass store.old) (V.lets_pass store.new) }
+    ensures store { ReadsOrFails V.told V.moment V.left_since V.may_leave V.faults V.lets_pass (IsErrOf result errors.Fault) store.old store.new }
 {
     if current == 0 {
         return match first_image(alloc, geometry) {
@@ -247,11 +231,7 @@ fn read_first<V: Store>(
     ensures long { IsErrOf result errors.TooLong → ⊥ }
     ensures steady { IsErrOf result errors.Unsteady → ⊥ }
     ensures unformatted { IsErrOf result errors.Unformatted → IfSome (V.told store.old) (λ fs. IsUnformatted fs.log) }
-    ensures reads { OnlyReads V.told V.moment V.left_since V.may_leave store.old store.new }
-    ensures later { V.faults store.old ≤ V.faults store.new }
-    ensures fault { IsErrOf result errors.Fault → Rose (V.faults store.old) (V.faults store.new) }
-    ensures kept { (IsErrOf result errors.Fault → ⊥) → V.faults store.new ≡ V.faults store.old }
-    ensures passes { PassesFewer (V.lets_pass store.old) (V.lets_pass store.new) }
+    ensures store { ReadsOrFails V.told V.moment V.left_since V.may_leave V.faults V.lets_pass (IsErrOf result errors.Fault) store.old store.new }
 {
     let (reader, (index, heap)) = match LogReader::open(alloc, store) {
         Ok(opened) => opened,

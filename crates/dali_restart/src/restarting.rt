@@ -1,13 +1,12 @@
 //! A restart: what a log says of its records is recovered, written, and handed out as a core.
-ghost use Rattle.std.specs.Prelude.{◌≡◌, ◌≤◌, ◌<◌, ◌^◌, ◌⊎◌, ℕ, IfOk, IfErr, OnErr, IfSome, IsErrOf, MatchResult, is_some, Some, None, []};
+ghost use Rattle.std.specs.Prelude.{◌≡◌, ◌≤◌, ◌<◌, ◌^◌, ◌⊎◌, ℕ, IfOk, IfErr, IfSome, IsErrOf, MatchResult, Some, None, []};
 ghost use Rattle.std.specs.List.{AllByRecursion};
 ghost use Rattle.dali_record.specs.Blocks.{AreWords, AllAreWords};
 ghost use Rattle.dali_store.specs.declared.store.FileName.{FileName as Name};
-ghost use Rattle.dali_store.specs.Calls.{PassesFewer};
 ghost use Rattle.dali_store.specs.Faults.{Rose};
 ghost use Rattle.dali_store.specs.Store.{Files};
 ghost use Rattle.dali_batch.specs.Batch.{IsUnformatted};
-ghost use Rattle.dali_batch.specs.Reads.{OnlyReads};
+ghost use Rattle.dali_batch.specs.Reads.{OnlyReads, ReadsOrFails};
 ghost use Rattle.dali_whole.specs.Cores.{IsWholeCore};
 ghost use Rattle.dali_recovery.specs.Standing.{IsOrdered};
 ghost use Rattle.dali_resume.specs.Again.{Outcome};
@@ -17,7 +16,7 @@ ghost use Rattle.dali_restart.specs.declared.error.RestartError.TheVariants as e
 ghost use Rattle.dali_restart.specs.declared.restarting.Due.TheVariants as dues;
 ghost use Rattle.dali_restart.specs.Opening.{IsBadStore};
 ghost use Rattle.dali_restart.specs.Restarting.{outcome, Gives, IsReadAs, IsBadAnywhere, IsFresh, IsLeft, BeginsRun, LeavesAtRest, StaysIdle, StopsAlike};
-ghost use Rattle.dali_restart.specs.Deciding.{IsInRoom, IsBegunIn, IsReadIn, IsInOrder, FindsNext, IfRead, IfLost, at_end, due_of, resting_of, LogsRecord, WritesImage, IsSmallRest, IsWritten, Settles};
+ghost use Rattle.dali_restart.specs.Deciding.{IsInRoom, IsBegunIn, IsReadIn, IsInOrder, FindsNext, IfRead, IfLost, at_end, due_of, resting_of, LogsRecord, WritesImage, IsSmallRest, IsWritten, WritesOrFails, Settles};
 
 use crate::error::{Refused, RestartError};
 use crate::opening::{Opened, open};
@@ -107,11 +106,7 @@ fn begin<V: Store>(alloc: Global, store: &mut V) -> Result<Begun, RestartError>
     ensures formatted { IsErrOf result errors.Formatted → ⊥ }
     ensures long { IsErrOf result errors.TooLong → ⊥ }
     ensures steady { IsErrOf result errors.Unsteady → ⊥ }
-    ensures reads { OnlyReads V.told V.moment V.left_since V.may_leave store.old store.new }
-    ensures later { V.faults store.old ≤ V.faults store.new }
-    ensures fault { IsErrOf result errors.Fault → Rose (V.faults store.old) (V.faults store.new) }
-    ensures kept { (IsErrOf result errors.Fault → ⊥) → V.faults store.new ≡ V.faults store.old }
-    ensures passes { PassesFewer (V.lets_pass store.old) (V.lets_pass store.new) }
+    ensures store { ReadsOrFails V.told V.moment V.left_since V.may_leave V.faults V.lets_pass (IsErrOf result errors.Fault) store.old store.new }
 {
     let opened = match open(alloc, store) {
         Ok(opened) => opened,
@@ -160,11 +155,7 @@ fn pass<V: Store>(alloc: Global, store: &mut V, known: &[Damage]) -> Result<Step
     ensures formatted { IsErrOf result errors.Formatted → ⊥ }
     ensures long { IsErrOf result errors.TooLong → ⊥ }
     ensures steady { IsErrOf result errors.Unsteady → ⊥ }
-    ensures reads { OnlyReads V.told V.moment V.left_since V.may_leave store.old store.new }
-    ensures later { V.faults store.old ≤ V.faults store.new }
-    ensures fault { IsErrOf result errors.Fault → Rose (V.faults store.old) (V.faults store.new) }
-    ensures kept { (IsErrOf result errors.Fault → ⊥) → V.faults store.new ≡ V.faults store.old }
-    ensures passes { PassesFewer (V.lets_pass store.old) (V.lets_pass store.new) }
+    ensures store { ReadsOrFails V.told V.moment V.left_since V.may_leave V.faults V.lets_pass (IsErrOf result errors.Fault) store.old store.new }
 {
     let begun = match begin(alloc, store) {
         Ok(begun) => begun,
@@ -192,11 +183,7 @@ fn read<V: Store>(alloc: Global, store: &mut V) -> Result<Found, RestartError>
     ensures formatted { IsErrOf result errors.Formatted → ⊥ }
     ensures long { IsErrOf result errors.TooLong → ⊥ }
     ensures steady { IsErrOf result errors.Unsteady → V.told store.old ≡ None }
-    ensures reads { OnlyReads V.told V.moment V.left_since V.may_leave store.old store.new }
-    ensures later { V.faults store.old ≤ V.faults store.new }
-    ensures fault { IsErrOf result errors.Fault → Rose (V.faults store.old) (V.faults store.new) }
-    ensures kept { (IsErrOf result errors.Fault → ⊥) → V.faults store.new ≡ V.faults store.old }
-    ensures passes { PassesFewer (V.lets_pass store.old) (V.lets_pass store.new) }
+    ensures store { ReadsOrFails V.told V.moment V.left_since V.may_leave V.faults V.lets_pass (IsErrOf result errors.Fault) store.old store.new }
 {
     let mut known: Vec<Damage> = Vec::new(alloc);
     let mut last = 0;
@@ -290,12 +277,7 @@ fn log_record<V: Store>(
         found.now.reloaded.recovered.regions.items store.old store.new result }
     ensures errors { IfErr result (λ e. (e ≡ errors.Fault) ⊎ (e ≡ errors.OutOfMemory) ⊎ (e ≡ errors.TooLong)) }
     ensures long { IsErrOf result errors.TooLong → 2 ^ 30 < restart_length found.now.reloaded.recovered.rolled_back.items found.now.reloaded.recovered.deleted.items }
-    ensures untouched { (IsErrOf result errors.Fault → ⊥) → OnErr result (store.new ≡ store.old) }
-    ensures tells { is_some (V.told store.new) ≡ is_some (V.told store.old) }
-    ensures later { V.faults store.old ≤ V.faults store.new }
-    ensures fault { IsErrOf result errors.Fault → Rose (V.faults store.old) (V.faults store.new) }
-    ensures kept { (IsErrOf result errors.Fault → ⊥) → V.faults store.new ≡ V.faults store.old }
-    ensures passes { PassesFewer (V.lets_pass store.old) (V.lets_pass store.new) }
+    ensures store { WritesOrFails V.told V.faults V.lets_pass (IsErrOf result errors.Fault) store.old store.new result }
 {
     let whole = end_of(found);
     let Recovered {
@@ -331,12 +313,7 @@ fn write_image<V: Store>(
     ensures ready { IfOk result (λ rest. IfSome (V.told store.old) (λ _. AreReady (V.may_leave store.new) rest.end rest.current)) }
     ensures written { IsWritten V.told V.may_leave V.moment V.left_since standing.now (Some found.now.reloaded.end) [] [] found.now.reloaded.recovered.regions.items store.old store.new result }
     ensures errors { IfErr result (λ e. (e ≡ errors.Fault) ⊎ (e ≡ errors.OutOfMemory)) }
-    ensures untouched { (IsErrOf result errors.Fault → ⊥) → OnErr result (store.new ≡ store.old) }
-    ensures tells { is_some (V.told store.new) ≡ is_some (V.told store.old) }
-    ensures later { V.faults store.old ≤ V.faults store.new }
-    ensures fault { IsErrOf result errors.Fault → Rose (V.faults store.old) (V.faults store.new) }
-    ensures kept { (IsErrOf result errors.Fault → ⊥) → V.faults store.new ≡ V.faults store.old }
-    ensures passes { PassesFewer (V.lets_pass store.old) (V.lets_pass store.new) }
+    ensures store { WritesOrFails V.told V.faults V.lets_pass (IsErrOf result errors.Fault) store.old store.new result }
 {
     let whole = end_of(found);
     let regions = &found.reloaded.recovered.regions;
@@ -361,12 +338,7 @@ fn settle<V: Store>(alloc: Global, store: &mut V, found: &Found) -> Result<Resti
     ensures any_moment { IfSome (V.told store.old) (λ fs. StopsAlike V.may_leave V.moment V.left_since fs store.old store.new) }
     ensures errors { IfErr result (λ e. (e ≡ errors.Fault) ⊎ (e ≡ errors.OutOfMemory) ⊎ (e ≡ errors.TooLong)) }
     ensures long { IsErrOf result errors.TooLong → 2 ^ 30 < restart_length found.now.reloaded.recovered.rolled_back.items found.now.reloaded.recovered.deleted.items }
-    ensures untouched { (IsErrOf result errors.Fault → ⊥) → OnErr result (store.new ≡ store.old) }
-    ensures tells { is_some (V.told store.new) ≡ is_some (V.told store.old) }
-    ensures later { V.faults store.old ≤ V.faults store.new }
-    ensures fault { IsErrOf result errors.Fault → Rose (V.faults store.old) (V.faults store.new) }
-    ensures kept { (IsErrOf result errors.Fault → ⊥) → V.faults store.new ≡ V.faults store.old }
-    ensures passes { PassesFewer (V.lets_pass store.old) (V.lets_pass store.new) }
+    ensures store { WritesOrFails V.told V.faults V.lets_pass (IsErrOf result errors.Fault) store.old store.new result }
 {
     match decide(found) {
         Due::Nothing => Ok(rest_at(&end_of(found))),

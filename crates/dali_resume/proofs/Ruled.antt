@@ -3,6 +3,7 @@ use Rattle.std.specs.List.{list_all, list_any}
 use Rattle.std.specs.Prelude.{nat_le, nat_lt, not, ◌&&◌, ◌||◌, ◌==◌}
 use Rattle.std.proofs.Common.{Bool, List, ap, cond, drop, false, length, refl, true, ℕ, ◌≡◌, ◌∷◌, ◌∙◌, ◌≤◌, ◌^◌, ◌<◌, []}
 use Rattle.std.proofs.lemmas.Bool.{both_ways}
+use mathlib.Core.Bool.{and-true}
 use Rattle.dali_geometry.specs.Places.{regions}
 use Rattle.dali_geometry.specs.Sizes.{Sizes}
 use Rattle.dali_record.specs.Damage.{has}
@@ -112,25 +113,20 @@ pub record Told (n : ℕ) (Y : List Record) (g : Known) : Type 0 where
   pub seen : g.seen ≡ records_from n (last_epoch Y)
   pub formed : Formed (number_next Y) (last_epoch Y).records
 
+-- a test that neither who is idle nor who waits passes
+runs_alone : (f : Status → Bool) → f Idle ≡ false → f Waiting ≡ false → (b c d : Bool) (us : List Pending) → f (stat b c d us) ≡ ((b && (not c && not d)) && f (Running us))
+runs_alone f i w true true true us = i
+runs_alone f i w true true false us = w
+runs_alone f i w true false true us = i
+runs_alone f i w true false false us = refl
+runs_alone f i w false c true us = i
+runs_alone f i w false c false us = i
+
 running_is : (b c d : Bool) (us : List Pending) → is_running (stat b c d us) ≡ (b && (not c && not d))
-running_is true true true us = refl
-running_is true true false us = refl
-running_is true false true us = refl
-running_is true false false us = refl
-running_is false true true us = refl
-running_is false true false us = refl
-running_is false false true us = refl
-running_is false false false us = refl
+running_is b c d us = runs_alone is_running refl refl b c d us ∙ and-true (b && (not c && not d))
 
 back_is : (b c d : Bool) (us : List Pending) (q : Block) → may_take_back (stat b c d us) q ≡ ((b && (not c && not d)) && undoes_last q (last_of us))
-back_is true true true us q = refl
-back_is true true false us q = refl
-back_is true false true us q = refl
-back_is true false false us q = refl
-back_is false true true us q = refl
-back_is false true false us q = refl
-back_is false false true us q = refl
-back_is false false false us q = refl
+back_is b c d us q = runs_alone (λ (x : Status). may_take_back x q) refl refl b c d us
 
 end_is : (b c d : Bool) (us : List Pending) → (b ≡ false → c ≡ false) → may_end (stat b c d us) ≡ ((c && not d) || ((b && (not c && not d)) && is_none_left us))
 end_is true true true us h = refl

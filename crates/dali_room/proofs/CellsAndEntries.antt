@@ -40,6 +40,74 @@ abbrev pub size : Option (ℕ × ℕ) → ℕ
 size None = 0
 size (Some p) = 1
 
+-- ---- an operation that takes a slot leaves an undo
+-- the outcomes that do
+abbrev leaves_undo : Outcome → Bool
+leaves_undo (Added entry) = true
+leaves_undo (PutIn cell) = true
+leaves_undo _ = false
+
+module _ (slot : ℕ → Outcome → Option (ℕ × ℕ)) (none : (r : ℕ) (o : Outcome) → leaves_undo o ≡ false → size (slot r o) ≡ 0) (ws : List ℕ) (b : Block) where
+  abbrev Leaves : Type 0
+  Leaves = size (slot b.region b.outcome) ≤ length (undo_added b b.undo)
+
+  nothing : (o : Outcome) → o ≡ b.outcome → leaves_undo o ≡ false → Leaves
+  nothing o e f = omega (arith, ap (λ z. size (slot b.region z)) e, none b.region o f)
+
+  few : (o : Option (ℕ × ℕ)) → size o ≤ 1
+  few None = omega arith
+  few (Some p) = omega arith
+
+  something : (u : Undo) → Some u ≡ b.undo → Leaves
+  something u e = subst (λ z. size (slot b.region b.outcome) ≤ length (undo_added b z)) e (few (slot b.region b.outcome))
+
+  of_look : (r : LookOutcome) → looked r ≡ b.outcome → Leaves
+  of_look (LookFound x y) e = nothing (Found x y) e refl
+  of_look (LookAbsent x) e = nothing (Absent x) e refl
+
+  of_add : (r : AddOutcome) → added r ≡ b.outcome → undo_of_add r ≡ b.undo → Leaves
+  of_add (AddDone x) e f = something _ f
+  of_add AddNoEntry e f = nothing NoEntry e refl
+
+  of_put : (r : PutOutcome) → stored r ≡ b.outcome → undo_of_put r ≡ b.undo → Leaves
+  of_put (PutDone x) e f = something _ f
+  of_put PutNoCell e f = nothing NoCell e refl
+
+  of_kill : (r : KillOutcome) → killed r ≡ b.outcome → Leaves
+  of_kill (KillNotLive x) e = nothing (NotLive x) e refl
+  of_kill (KillOtherKey x) e = nothing (OtherKey x) e refl
+  of_kill (KillOddLength x) e = nothing (OddLength x) e refl
+  of_kill KillKilled e = nothing Killed e refl
+
+  of_read : (r : ReadOutcome) → read r ≡ b.outcome → Leaves
+  of_read (ReadNotLive x) e = nothing (NotLive x) e refl
+  of_read (ReadOtherKey x) e = nothing (OtherKey x) e refl
+  of_read (ReadOddLength x) e = nothing (OddLength x) e refl
+  of_read (ReadValue v) e = nothing (Value v) e refl
+
+  of_change : (r : ChangeOutcome) → changed r ≡ b.outcome → Leaves
+  of_change (ChangeNotLive x) e = nothing (NotLive x) e refl
+  of_change (ChangeOtherKey x) e = nothing (OtherKey x) e refl
+  of_change (ChangeOddLength x) e = nothing (OddLength x) e refl
+  of_change ChangeDone e = nothing Changed e refl
+
+  go : (op : Op) → (effect op b.key ws).1 ≡ b.outcome → (effect op b.key ws).2 ≡ b.undo → Leaves
+  go Look e f = of_look (index.look ws b.key).1 e
+  go (Add p) e f = of_add (index.add ws b.key p).1 e f
+  go (KillEntry x) e f = of_kill (index.kill ws x b.key).1 e
+  go (Put v) e f = of_put (heap.put ws b.key v).1 e f
+  go (Read c) e f = of_read (heap.read ws c b.key).1 e
+  go (Change c v) e f = of_change (heap.change ws c b.key v).1 e
+  go (KillCell c) e f = of_kill (heap.kill ws c b.key).1 e
+  go (FreeCell c) e f = nothing Undone e refl
+  go (ReviveCell c) e f = nothing Undone e refl
+  go (Restore c n vs) e f = nothing Undone e refl
+  go (FreeEntry x) e f = nothing Undone e refl
+  go (ReviveEntry x) e f = nothing Undone e refl
+
+  undone : IsSoundOn ws b → Leaves
+  undone h = go b.op (ap (λ (x : Block). x.outcome) h) (ap (λ (x : Block). x.undo) h)
+
 -- ---- cells
 abbrev pub takes_cell : Block → ℕ
 takes_cell b = size (cell_in b.region b.outcome)
@@ -164,66 +232,12 @@ cell_answered s (Adding key v at region tried) c a e = absurd (cc (e))
 cell_answered s (Finished d b) c a e = cell_call d c b (and_parts (same_call d c) (same_answer b a) e).0
 cell_answered s _ c a e = omega arith
 
--- an operation that takes one leaves an undo
-cell_undone : (ws : List ℕ) (b : Block) → IsSoundOn ws b → takes_cell b ≤ length (undo_added b b.undo)
-cell_undone ws b h = go b.op (ap (λ (x : Block). x.outcome) h) (ap (λ (x : Block). x.undo) h)
-  where
-    nothing : (o : Outcome) → o ≡ b.outcome → size (cell_in b.region o) ≡ 0 → takes_cell b ≤ length (undo_added b b.undo)
-    nothing o e f = omega (arith, ap (λ z. size (cell_in b.region z)) e, f)
-
-    something : (u : Undo) → Some u ≡ b.undo → size (cell_in b.region b.outcome) ≤ 1 → takes_cell b ≤ length (undo_added b b.undo)
-    something u e f = subst (λ z. takes_cell b ≤ length (undo_added b z)) e f
-
-    few : (o : Option (ℕ × ℕ)) → size o ≤ 1
-    few None = omega arith
-    few (Some p) = omega arith
-
-    of_look : (r : LookOutcome) → looked r ≡ b.outcome → takes_cell b ≤ length (undo_added b b.undo)
-    of_look (LookFound x y) e = nothing (Found x y) e refl
-    of_look (LookAbsent x) e = nothing (Absent x) e refl
-
-    of_add : (r : AddOutcome) → added r ≡ b.outcome → undo_of_add r ≡ b.undo → takes_cell b ≤ length (undo_added b b.undo)
-    of_add (AddDone x) e f = something _ f (few (cell_in b.region b.outcome))
-    of_add AddNoEntry e f = nothing NoEntry e refl
-
-    of_put : (r : PutOutcome) → stored r ≡ b.outcome → undo_of_put r ≡ b.undo → takes_cell b ≤ length (undo_added b b.undo)
-    of_put (PutDone x) e f = something _ f (few (cell_in b.region b.outcome))
-    of_put PutNoCell e f = nothing NoCell e refl
-
-    of_kill : (r : KillOutcome) → killed r ≡ b.outcome → takes_cell b ≤ length (undo_added b b.undo)
-    of_kill (KillNotLive x) e = nothing (NotLive x) e refl
-    of_kill (KillOtherKey x) e = nothing (OtherKey x) e refl
-    of_kill (KillOddLength x) e = nothing (OddLength x) e refl
-    of_kill KillKilled e = nothing Killed e refl
-
-    of_read : (r : ReadOutcome) → read r ≡ b.outcome → takes_cell b ≤ length (undo_added b b.undo)
-    of_read (ReadNotLive x) e = nothing (NotLive x) e refl
-    of_read (ReadOtherKey x) e = nothing (OtherKey x) e refl
-    of_read (ReadOddLength x) e = nothing (OddLength x) e refl
-    of_read (ReadValue v) e = nothing (Value v) e refl
-
-    of_change : (r : ChangeOutcome) → changed r ≡ b.outcome → takes_cell b ≤ length (undo_added b b.undo)
-    of_change (ChangeNotLive x) e = nothing (NotLive x) e refl
-    of_change (ChangeOtherKey x) e = nothing (OtherKey x) e refl
-    of_change (ChangeOddLength x) e = nothing (OddLength x) e refl
-    of_change ChangeDone e = nothing Changed e refl
-
-    go : (op : Op) → (effect op b.key ws).1 ≡ b.outcome → (effect op b.key ws).2 ≡ b.undo → takes_cell b ≤ length (undo_added b b.undo)
-    go Look e f = of_look (index.look ws b.key).1 e
-    go (Add p) e f = of_add (index.add ws b.key p).1 e f
-    go (KillEntry x) e f = of_kill (index.kill ws x b.key).1 e
-    go (Put v) e f = of_put (heap.put ws b.key v).1 e f
-    go (Read c) e f = of_read (heap.read ws c b.key).1 e
-    go (Change c v) e f = of_change (heap.change ws c b.key v).1 e
-    go (KillCell c) e f = of_kill (heap.kill ws c b.key).1 e
-    go (FreeCell c) e f = nothing Undone e refl
-    go (ReviveCell c) e f = nothing Undone e refl
-    go (Restore c n vs) e f = nothing Undone e refl
-    go (FreeEntry x) e f = nothing Undone e refl
-    go (ReviveEntry x) e f = nothing Undone e refl
+no_cell : (r : ℕ) (o : Outcome) → leaves_undo o ≡ false → size (cell_in r o) ≡ 0
+no_cell r (PutIn cell) e = absurd (cc (e))
+no_cell r _ e = refl
 
 pub cell_tells : Tells takes_cell cell_pends
-cell_tells = record { follows = λ s t q b p e. cell_follows s b t q p e; first = refl; answered = cell_answered; undone = cell_undone }
+cell_tells = record { follows = λ s t q b p e. cell_follows s b t q p e; first = refl; answered = cell_answered; undone = undone cell_in no_cell }
 
 -- ---- entries
 abbrev pub takes_entry : Block → ℕ
@@ -348,63 +362,9 @@ entry_answered s (Adding key v at region tried) c a e = absurd (cc (e))
 entry_answered s (Finished d b) c a e = entry_call d c b (and_parts (same_call d c) (same_answer b a) e).0
 entry_answered s _ c a e = omega arith
 
--- an operation that takes one leaves an undo
-entry_undone : (ws : List ℕ) (b : Block) → IsSoundOn ws b → takes_entry b ≤ length (undo_added b b.undo)
-entry_undone ws b h = go b.op (ap (λ (x : Block). x.outcome) h) (ap (λ (x : Block). x.undo) h)
-  where
-    nothing : (o : Outcome) → o ≡ b.outcome → size (entry_in b.region o) ≡ 0 → takes_entry b ≤ length (undo_added b b.undo)
-    nothing o e f = omega (arith, ap (λ z. size (entry_in b.region z)) e, f)
-
-    something : (u : Undo) → Some u ≡ b.undo → size (entry_in b.region b.outcome) ≤ 1 → takes_entry b ≤ length (undo_added b b.undo)
-    something u e f = subst (λ z. takes_entry b ≤ length (undo_added b z)) e f
-
-    few : (o : Option (ℕ × ℕ)) → size o ≤ 1
-    few None = omega arith
-    few (Some p) = omega arith
-
-    of_look : (r : LookOutcome) → looked r ≡ b.outcome → takes_entry b ≤ length (undo_added b b.undo)
-    of_look (LookFound x y) e = nothing (Found x y) e refl
-    of_look (LookAbsent x) e = nothing (Absent x) e refl
-
-    of_add : (r : AddOutcome) → added r ≡ b.outcome → undo_of_add r ≡ b.undo → takes_entry b ≤ length (undo_added b b.undo)
-    of_add (AddDone x) e f = something _ f (few (entry_in b.region b.outcome))
-    of_add AddNoEntry e f = nothing NoEntry e refl
-
-    of_put : (r : PutOutcome) → stored r ≡ b.outcome → undo_of_put r ≡ b.undo → takes_entry b ≤ length (undo_added b b.undo)
-    of_put (PutDone x) e f = something _ f (few (entry_in b.region b.outcome))
-    of_put PutNoCell e f = nothing NoCell e refl
-
-    of_kill : (r : KillOutcome) → killed r ≡ b.outcome → takes_entry b ≤ length (undo_added b b.undo)
-    of_kill (KillNotLive x) e = nothing (NotLive x) e refl
-    of_kill (KillOtherKey x) e = nothing (OtherKey x) e refl
-    of_kill (KillOddLength x) e = nothing (OddLength x) e refl
-    of_kill KillKilled e = nothing Killed e refl
-
-    of_read : (r : ReadOutcome) → read r ≡ b.outcome → takes_entry b ≤ length (undo_added b b.undo)
-    of_read (ReadNotLive x) e = nothing (NotLive x) e refl
-    of_read (ReadOtherKey x) e = nothing (OtherKey x) e refl
-    of_read (ReadOddLength x) e = nothing (OddLength x) e refl
-    of_read (ReadValue v) e = nothing (Value v) e refl
-
-    of_change : (r : ChangeOutcome) → changed r ≡ b.outcome → takes_entry b ≤ length (undo_added b b.undo)
-    of_change (ChangeNotLive x) e = nothing (NotLive x) e refl
-    of_change (ChangeOtherKey x) e = nothing (OtherKey x) e refl
-    of_change (ChangeOddLength x) e = nothing (OddLength x) e refl
-    of_change ChangeDone e = nothing Changed e refl
-
-    go : (op : Op) → (effect op b.key ws).1 ≡ b.outcome → (effect op b.key ws).2 ≡ b.undo → takes_entry b ≤ length (undo_added b b.undo)
-    go Look e f = of_look (index.look ws b.key).1 e
-    go (Add p) e f = of_add (index.add ws b.key p).1 e f
-    go (KillEntry x) e f = of_kill (index.kill ws x b.key).1 e
-    go (Put v) e f = of_put (heap.put ws b.key v).1 e f
-    go (Read c) e f = of_read (heap.read ws c b.key).1 e
-    go (Change c v) e f = of_change (heap.change ws c b.key v).1 e
-    go (KillCell c) e f = of_kill (heap.kill ws c b.key).1 e
-    go (FreeCell c) e f = nothing Undone e refl
-    go (ReviveCell c) e f = nothing Undone e refl
-    go (Restore c n vs) e f = nothing Undone e refl
-    go (FreeEntry x) e f = nothing Undone e refl
-    go (ReviveEntry x) e f = nothing Undone e refl
+no_entry : (r : ℕ) (o : Outcome) → leaves_undo o ≡ false → size (entry_in r o) ≡ 0
+no_entry r (Added entry) e = absurd (cc (e))
+no_entry r _ e = refl
 
 pub entry_tells : Tells takes_entry entry_pends
-entry_tells = record { follows = λ s t q b p e. entry_follows s b t q p e; first = refl; answered = entry_answered; undone = entry_undone }
+entry_tells = record { follows = λ s t q b p e. entry_follows s b t q p e; first = refl; answered = entry_answered; undone = undone entry_in no_entry }

@@ -40,6 +40,7 @@ use Rattle.dali_slots.proofs.SlotUndos.{slot_of}
 use Rattle.dali_slots.proofs.CallKey.{follow_says}
 use Rattle.dali_kept.specs.Kept.{kept_state, kept_step, KeepsCalls}
 use Rattle.dali_kept.proofs.WithoutLast.{kept_before, calls_before, sound_before}
+use Rattle.dali_kept.proofs.AnswersKeep.{rested_of}
 use Rattle.dali_kept.proofs.OperationsKeep.{Forwards, forward_is, gone_on, started}
 use Rattle.dali_kept.proofs.KnownTxns.{back_is, is_allowed}
 use Rattle.dali_kept.proofs.InvariantAlong.{forward_state, back_state, done_state, region_within, image_region, is_of_is}
@@ -365,45 +366,25 @@ module _ (s : Sizes) (base : List (List ℕ)) (J : List Record) (image : IsImage
   same_work : (w v : Working) → Active w ≡ Active v → w ≡ v
   same_work w v e = cc (e)
 
-  -- what an undo may revive
-  removals_behind : (x : Record) → KeepsCalls s (J ++ x ∷ []) → AreSound base (J ++ x ∷ []) → (t : ℕ) (v : Working) → kept_state s t (J ++ x ∷ []) ≡ Some (Active v) → WereThere s (J ++ x ∷ []) v.undos
-  removals_behind x calls sound t v e = there_more s J x v.undos (go (step_at t x calls (Active v) e))
+  -- what an undo may revive, and what a call knows
+  active_behind : (x : Record) → KeepsCalls s (J ++ x ∷ []) → AreSound base (J ++ x ∷ []) → (t : ℕ) (v : Working) → kept_state s t (J ++ x ∷ []) ≡ Some (Active v) → WereThere s J v.undos × Seen s J v.progress
+  active_behind x calls sound t v e = go (step_at t x calls (Active v) e)
     where
-      old : (w : Working) → (state_at t x calls).0 ≡ Active w → WereThere s J w.undos
-      old w f = held.removals t w ((state_at t x calls).1 ∙ ap (λ z. Some z) f)
+      old : (w : Working) → (state_at t x calls).0 ≡ Active w → WereThere s J w.undos × Seen s J w.progress
+      old w f = let at = (state_at t x calls).1 ∙ ap (λ z. Some z) f in (held.removals t w at, held.calls t w at)
 
-      by : (w : Working) (us : List Pending) → v ≡ w → w.undos ≡ us → WereThere s J us → WereThere s J v.undos
-      by w us f g h = subst (λ z. WereThere s J z) (sym g ∙ ap (λ (z : Working). z.undos) (sym f)) h
+      by : (w : Working) → v ≡ w → WereThere s J w.undos × Seen s J w.progress → WereThere s J v.undos × Seen s J v.progress
+      by w f h = subst (λ (z : Working). WereThere s J z.undos × Seen s J z.progress) (sym f) h
 
-      go : Stepped s t (state_at t x calls).0 x (Active v) → WereThere s J v.undos
+      go : Stepped s t (state_at t x calls).0 x (Active v) → WereThere s J v.undos × Seen s J v.progress
       go (stays c f) = old v (sym f)
-      go (begins u r f) = by fresh [] (same_work v fresh f) refl tt
-      go (goes w b f r g) = subst (λ z. WereThere s J z) (sym (undos_gone t w v b g)) (there_append s J w.undos (undo_added b b.undo) (old w f) (added_there t w b (Active v) (fine_at t x b calls sound r) g))
-      go (backs w b p f r l i g) = by (taken_back w) (drop_last w.undos) (same_work v (taken_back w) g) refl (there_drop s J w.undos (old w f))
-      go (answered w c a f r i g) = let same : v.undos ≡ w.undos = cc (g) in subst (λ z. WereThere s J z) (sym same) (old w f)
-      go (commits w f r l g) = absurd (cc (g))
-      go (ends w f r l g) = absurd (cc (g))
-      go (closes ps f r g) = absurd (cc (g))
-      go (frees u b p ps qs f r i g) = absurd (cc (g))
-      go (alone p b f r g) = absurd (cc (g))
-      go (restarts rs ds r n) = absurd (n v refl)
-
-  -- what a call knows
-  calls_behind : (x : Record) → KeepsCalls s (J ++ x ∷ []) → AreSound base (J ++ x ∷ []) → (t : ℕ) (v : Working) → kept_state s t (J ++ x ∷ []) ≡ Some (Active v) → Seen s (J ++ x ∷ []) v.progress
-  calls_behind x calls sound t v e = seen_more s J x v.progress (go (step_at t x calls (Active v) e))
-    where
-      old : (w : Working) → (state_at t x calls).0 ≡ Active w → Seen s J w.progress
-      old w f = held.calls t w ((state_at t x calls).1 ∙ ap (λ z. Some z) f)
-
-      by : (p : Progress) → v.progress ≡ p → Seen s J p → Seen s J v.progress
-      by p f h = subst (λ z. Seen s J z) (sym f) h
-
-      go : Stepped s t (state_at t x calls).0 x (Active v) → Seen s J v.progress
-      go (stays c f) = old v (sym f)
-      go (begins u r f) = let same : v.progress ≡ Fresh = cc (f) in by Fresh same tt
-      go (goes w b f r g) = seen_gone t w v b (fine_at t x b calls sound r) (old w f) g
-      go (backs w b p f r l i g) = let same : v.progress ≡ w.progress = cc (g) in by w.progress same (old w f)
-      go (answered w c a f r i g) = let same : v.progress ≡ Fresh = cc (g) in by Fresh same tt
+      go (begins u r f) = by fresh (same_work v fresh f) (tt, tt)
+      go (goes w b f r g) = (
+        subst (λ z. WereThere s J z) (sym (undos_gone t w v b g)) (there_append s J w.undos (undo_added b b.undo) (old w f).0 (added_there t w b (Active v) (fine_at t x b calls sound r) g)),
+        seen_gone t w v b (fine_at t x b calls sound r) (old w f).1 g,
+      )
+      go (backs w b p f r l i g) = by (taken_back w) (same_work v (taken_back w) g) (there_drop s J w.undos (old w f).0, (old w f).1)
+      go (answered w c a f r i g) = by (rested_of w) (same_work v (rested_of w) g) ((old w f).0, tt)
       go (commits w f r l g) = absurd (cc (g))
       go (ends w f r l g) = absurd (cc (g))
       go (closes ps f r g) = absurd (cc (g))
@@ -429,8 +410,8 @@ module _ (s : Sizes) (base : List (List ℕ)) (J : List Record) (image : IsImage
   pub held_push : (x : Record) → KeepsCalls s (J ++ x ∷ []) → AreSound base (J ++ x ∷ []) → Held s base (J ++ x ∷ [])
   held_push x calls sound = record {
     taken = taken_behind x calls sound;
-    removals = removals_behind x calls sound;
-    calls = calls_behind x calls sound;
+    removals = λ t v e. there_more s J x v.undos (active_behind x calls sound t v e).0;
+    calls = λ t v e. seen_more s J x v.progress (active_behind x calls sound t v e).1;
     told = told_behind x calls;
   }
 

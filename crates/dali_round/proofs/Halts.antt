@@ -1,6 +1,6 @@
 -- A round makes no steps more: its clients are asked one behind another to end what can't be cut.
 use Rattle.std.proofs.Common.{◌≡◌, ℕ, ◌+◌, ◌<◌, ◌≤◌, Bool, true, false, List, [], ◌++◌, length, Option, Some, refl, ap, sym, subst, ◌∙◌, inl, inr, ⊎_elim, arith}
-use Rattle.std.specs.Prelude.{◌==◌, slice_get, slice_set}
+use Rattle.std.specs.Prelude.{◌==◌, ⊤, slice_get, slice_set}
 use Rattle.std.proofs.lemmas.Bool.{cases_lt}
 use Rattle.std.proofs.lemmas.List.{append-nil}
 use Rattle.std.proofs.lemmas.Option.{slice_get_within}
@@ -9,12 +9,14 @@ use Rattle.dali_counts.proofs.Lists.{equal, same_number, some_same}
 use Rattle.dali_region.specs.State.{RegionState}
 use Rattle.dali_store.specs.Store.{Files as Disk}
 use Rattle.dali_system.specs.State.{SystemState}
+use Rattle.dali_record.specs.declared.records.Record.{Record}
 use Rattle.dali_crash.specs.Checkpoints.{Point, StoreStep, IsPointCourse}
 use Rattle.dali_crash.specs.Traces.{Start}
 use Rattle.dali_vault.specs.Vaulted.{Vaulted}
 use Rattle.dali_whole.specs.Cores.{IsNoShorter}
 use Rattle.dali_whole.specs.Moments.{Within}
 use Rattle.dali_checkpoint.proofs.Calls.{course_join}
+use Rattle.dali_transcripts.specs.World.{World}
 use Rattle.dali_transcripts.specs.Transcripts.{Told}
 use Rattle.dali_transcripts.specs.Rounds.{Standing}
 use Rattle.dali_turns.specs.declared.client.Client.{Client}
@@ -25,7 +27,7 @@ use Rattle.dali_turns.specs.Turns.{Halted, HaltGoes}
 use Rattle.dali_turns.specs.Moments.{LeavesHere, HaltLeavesRight}
 use Rattle.dali_turns.proofs.Staying.{others_fit}
 use Rattle.dali_turns.proofs.Unfinished.{under_way_on}
-use Rattle.dali_round.specs.Played.{IsSeated, IsHalting, Played, Halting, HaltsGo}
+use Rattle.dali_round.specs.Played.{EachIsOwned, IsSeated, IsHalting, PlayedSo, Played, Halting, HaltsGo}
 use Rattle.dali_round.specs.Moments.{LeavesBetween, HaltsOn, HaltsEnd}
 use Rattle.dali_round.proofs.Lists.{with_length}
 use Rattle.dali_round.proofs.Begun.{in_one}
@@ -34,33 +36,12 @@ use Rattle.dali_round.proofs.Between.{here_between, map_left, between_both, ends
 use Rattle.dali_round.proofs.Seats.{client_apart, speaks_on, same_numbers, legal, halting_by}
 
 module _ {V : Type 0} (told : V → Option Disk) (may_leave : V → Disk → Type 0) (faults : V → ℕ) (precheck : Bool) (s : Start) (p : Point) (bs : List Told) (ks : List Client) where
-  -- a round between two steps makes none more
-  pub may_halt : (gs : List RegionState) (y : SystemState) (v : Vaulted V) → Played told may_leave faults true precheck s p bs ks gs y v → Halting told may_leave faults 0 precheck s p bs ks gs y v
-  may_halt gs y v f = record {
-    are = f.are;
-    log = f.log;
-    to = f.to;
-    batches = f.batches;
-    steps = f.steps;
-    course = f.course;
-    world = f.world;
-    old_is = f.old_is;
-    before_is = f.before_is;
-    stood = f.stood;
-    owners = f.owners;
-    standings = f.standings;
-    blocks = f.blocks;
-    count = f.count;
-    seats = λ i a k at_a at_k. inr (omega arith, f.seats i a k at_a at_k);
-  }
-
-  pub may_halt_to : (gs : List RegionState) (y : SystemState) (v : Vaulted V) (f : Played told may_leave faults true precheck s p bs ks gs y v) → (may_halt gs y v f).to ≡ f.to
-  unfolding may_halt
-  may_halt_to gs y v f = refl
-
-  -- and all were asked
-  pub has_halted : (upto : ℕ) (gs : List RegionState) (y : SystemState) (v : Vaulted V) → length ks ≤ upto → Halting told may_leave faults upto precheck s p bs ks gs y v → Played told may_leave faults false precheck s p bs ks gs y v
-  has_halted upto gs y v all h = record {
+  -- the same round, with something else said of its clients
+  abbrev seated_so : (IsAt IsSo : ℕ → Start → List (List Record) → Point → World → List RegionState → SystemState → Vaulted V → Standing → Client → Type 0) (Owned AreOwned : Type 0)
+      (gs : List RegionState) (y : SystemState) (v : Vaulted V) (h : PlayedSo told may_leave faults IsAt Owned precheck s p bs ks gs y v)
+      → ((i : ℕ) (a : Standing) (k : Client) → slice_get h.standings i ≡ Some a → slice_get ks i ≡ Some k → IsSo i s h.batches h.to h.world gs y v a k) → AreOwned
+      → PlayedSo told may_leave faults IsSo AreOwned precheck s p bs ks gs y v
+  seated_so IsAt IsSo Owned AreOwned gs y v h seats owned = record {
     are = h.are;
     log = h.log;
     to = h.to;
@@ -75,13 +56,27 @@ module _ {V : Type 0} (told : V → Option Disk) (may_leave : V → Disk → Typ
     standings = h.standings;
     blocks = h.blocks;
     count = h.count;
-    seats = λ i a k at_a at_k.
-        ⊎_elim
-        (λ cut. cut.1)
-        (λ still. let within : i < length ks = slice_get_within ks i k at_k in absurd (omega (arith, within, all, still.0)))
-        (h.seats i a k at_a at_k);
-    owned = λ e. absurd (cc);
+    seats = seats;
+    owned = owned;
   }
+
+  -- a round between two steps makes none more
+  pub may_halt : (gs : List RegionState) (y : SystemState) (v : Vaulted V) → Played told may_leave faults true precheck s p bs ks gs y v → Halting told may_leave faults 0 precheck s p bs ks gs y v
+  may_halt gs y v f = seated_so (λ (i : ℕ). IsSeated told may_leave faults true) (IsHalting told may_leave faults 0) (true ≡ true → EachIsOwned ks y) ⊤ gs y v f (λ i a k at_a at_k. inr (omega arith, f.seats i a k at_a at_k)) tt
+
+  pub may_halt_to : (gs : List RegionState) (y : SystemState) (v : Vaulted V) (f : Played told may_leave faults true precheck s p bs ks gs y v) → (may_halt gs y v f).to ≡ f.to
+  unfolding may_halt
+  may_halt_to gs y v f = refl
+
+  -- and all were asked
+  pub has_halted : (upto : ℕ) (gs : List RegionState) (y : SystemState) (v : Vaulted V) → length ks ≤ upto → Halting told may_leave faults upto precheck s p bs ks gs y v → Played told may_leave faults false precheck s p bs ks gs y v
+  has_halted upto gs y v all h = seated_so (IsHalting told may_leave faults upto) (λ (i : ℕ). IsSeated told may_leave faults false) ⊤ (false ≡ true → EachIsOwned ks y) gs y v h
+      (λ i a k at_a at_k.
+      ⊎_elim
+      (λ cut. cut.1)
+      (λ still. let within : i < length ks = slice_get_within ks i k at_k in absurd (omega (arith, within, all, still.0)))
+      (h.seats i a k at_a at_k))
+      (λ e. absurd (cc))
 
 -- ---- one is asked
 module _ {V : Type 0} (told : V → Option Disk) (may_leave : V → Disk → Type 0) (faults : V → ℕ) (moment : V → ℕ) (left_since : V → ℕ → Disk → Type 0) (precheck : Bool) (s : Start) (p : Point) (bs : List Told) (ks : List Client) where
@@ -99,23 +94,7 @@ module _ {V : Type 0} (told : V → Option Disk) (may_leave : V → Disk → Typ
 
     -- one that is gone has nothing to end
     gone_goes : (i ≤ i → k.state ≡ Gone) × IsSeated told may_leave faults false s h.batches h.to h.world gs y v there.0 k → Halting told may_leave faults (i + 1) precheck s p bs ks gs y v
-    gone_goes own = record {
-      are = h.are;
-      log = h.log;
-      to = h.to;
-      batches = h.batches;
-      steps = h.steps;
-      course = h.course;
-      world = h.world;
-      old_is = h.old_is;
-      before_is = h.before_is;
-      stood = h.stood;
-      owners = h.owners;
-      standings = h.standings;
-      blocks = h.blocks;
-      count = h.count;
-      seats = λ n a l at_a at_l. by_test n a l at_a at_l (n == i) refl;
-    }
+    gone_goes own = seated_so told may_leave faults precheck s p bs ks (IsHalting told may_leave faults i) (IsHalting told may_leave faults (i + 1)) ⊤ ⊤ gs y v h (λ n a l at_a at_l. by_test n a l at_a at_l (n == i) refl) tt
       where
         by_test : (n : ℕ) (a : Standing) (l : Client) → slice_get h.standings n ≡ Some a → slice_get ks n ≡ Some l → (b : Bool) → (n == i) ≡ b → IsHalting told may_leave faults (i + 1) n s h.batches h.to h.world gs y v a l
         by_test n a l at_a at_l true e =

@@ -20,7 +20,7 @@ use Rattle.dali_vault.specs.Vaulted.{Vaulted}
 use Rattle.dali_during.proofs.Points.{point_whole_course_keeps}
 use Rattle.dali_clean.specs.Cleaned.{AreDead}
 use Rattle.dali_transcripts.specs.Words.{Said}
-use Rattle.dali_transcripts.specs.World.{Deed, Logs, Strays, DiesOn, Claims, GivesBack, GetsLock, Yields, FindsDead, StartsCheckpoint, MovesAnchor, EndsCheckpoint, Meets, Happening, World, log_of, is_dead_in, is_claimed_in, span_step, under_way, Grows}
+use Rattle.dali_transcripts.specs.World.{Deed, StartsCheckpoint, EndsCheckpoint, Happening, World, log_of, is_dead_in, is_claimed_in, span_step, under_way, Grows}
 use Rattle.dali_transcripts.specs.Transcripts.{Told, deeds_of, number_in, numbers_of, receipts_of, AreHanded, is_among, EachTells}
 use Rattle.dali_transcripts.specs.Rounds.{Standing, Stands, IsDone, told_of, lines_in, IsAtRest, IsBetween}
 use Rattle.dali_transcripts.proofs.Rounds.{round_is_done, round_is_cut, deeds_are_done}
@@ -61,16 +61,7 @@ started bs [] o c e all first = first e
 started bs ((StartsCheckpoint, d) ∷ xs) o c e all first =
     started bs xs (Some d) c e (and_right (is_among bs d) (list_all (λ (x : Happening). is_among bs x.1) xs) all) (λ f. ap (is_among bs) (sym (some_same f)) ∙ and_left (is_among bs d) (list_all (λ (x : Happening). is_among bs x.1) xs) all)
 started bs ((EndsCheckpoint, d) ∷ xs) o c e all first = started bs xs None c e (and_right (is_among bs d) (list_all (λ (x : Happening). is_among bs x.1) xs) all) (λ f. absurd (cc))
-started bs ((Logs x, d) ∷ xs) o c e all first = started bs xs o c e (and_right (is_among bs d) (list_all (λ (x : Happening). is_among bs x.1) xs) all) first
-started bs ((Strays r word mask, d) ∷ xs) o c e all first = started bs xs o c e (and_right (is_among bs d) (list_all (λ (x : Happening). is_among bs x.1) xs) all) first
-started bs ((DiesOn t r, d) ∷ xs) o c e all first = started bs xs o c e (and_right (is_among bs d) (list_all (λ (x : Happening). is_among bs x.1) xs) all) first
-started bs ((Claims t, d) ∷ xs) o c e all first = started bs xs o c e (and_right (is_among bs d) (list_all (λ (x : Happening). is_among bs x.1) xs) all) first
-started bs ((GivesBack t latched, d) ∷ xs) o c e all first = started bs xs o c e (and_right (is_among bs d) (list_all (λ (x : Happening). is_among bs x.1) xs) all) first
-started bs ((Yields f, d) ∷ xs) o c e all first = started bs xs o c e (and_right (is_among bs d) (list_all (λ (x : Happening). is_among bs x.1) xs) all) first
-started bs ((GetsLock t k m, d) ∷ xs) o c e all first = started bs xs o c e (and_right (is_among bs d) (list_all (λ (x : Happening). is_among bs x.1) xs) all) first
-started bs ((FindsDead f, d) ∷ xs) o c e all first = started bs xs o c e (and_right (is_among bs d) (list_all (λ (x : Happening). is_among bs x.1) xs) all) first
-started bs ((MovesAnchor n, d) ∷ xs) o c e all first = started bs xs o c e (and_right (is_among bs d) (list_all (λ (x : Happening). is_among bs x.1) xs) all) first
-started bs ((Meets why, d) ∷ xs) o c e all first = started bs xs o c e (and_right (is_among bs d) (list_all (λ (x : Happening). is_among bs x.1) xs) all) first
+started bs ((_, d) ∷ xs) o c e all first = started bs xs o c e (and_right (is_among bs d) (list_all (λ (x : Happening). is_among bs x.1) xs) all) first
 
 receipts_told : (w : World) (ss : List Standing) → map (λ (a : Standing). numbers_of (deeds_of w a.client)) ss ≡ receipts_of w (map told_of ss)
 receipts_told w [] = refl

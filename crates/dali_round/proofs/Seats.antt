@@ -163,6 +163,7 @@ module _ {V : Type 0} (told : V → Option Disk) (may_leave : V → Disk → Typ
       blocks = map_set told_of standings i a b at_a (ap (λ c. record { client = c; acts = b.acts }) client ∙ ap (λ l. record { client = a.client; acts = l }) acts) ∙ blocks;
       count = length-set ks i j ∙ (count ∙ sym (length-set standings i b));
       seats = both_set (λ n c l. IsHalting told may_leave faults upto n s C q x hs z u c l) standings ks i b j seat others;
+      owned = tt;
     }
 
     pub halting_to : (b : Standing) (j : Client) (client : b.client ≡ a.client) (acts : b.acts ≡ a.acts) (upto : ℕ) (seat : IsHalting told may_leave faults upto i s C q x hs z u b j)

@@ -1,5 +1,6 @@
 -- A pass in which nobody went on.
 --     IsOrder order n          each place before n stands in this order, and no other
+--     MayPlay ks turns gs v    the clients may make their turns in this order
 --     AreIdle y ks n           each client before this place makes no step
 --     NoneHasCome ..           no run has come to these clients and this core
 use Rattle.std.specs.Prelude.{◌≡◌, ◌==◌, ℕ, ◌<◌, Bool, true, List, Option, Some, length, slice_get}
@@ -12,11 +13,15 @@ use Rattle.dali_vault.specs.Vaulted.{Vaulted}
 use Rattle.dali_transcripts.specs.Transcripts.{Told}
 use Rattle.dali_turns.specs.declared.client.Client.{Client}
 use Rattle.dali_turns.specs.Waits.{MakesNone}
-use Rattle.dali_round.specs.Played.{Played}
+use Rattle.dali_round.specs.Played.{HavePlaces, Played}
 
 pub record IsOrder (order : List ℕ) (n : ℕ) : Type 0 where
   pub all : (i : ℕ) → i < n → (j : ℕ) × (slice_get order j ≡ Some i)
   pub within : (j i : ℕ) → slice_get order j ≡ Some i → i < n
+
+pub record MayPlay {V : Type 0} (told : V → Option Disk) (ks : List Client) (turns : List ℕ) (gs : List RegionState) (v : Vaulted V) : Type 0 where
+  pub places : HavePlaces told ks gs v
+  pub order : IsOrder turns (length ks)
 
 abbrev pub AreIdle : SystemState → List Client → ℕ → Type 0
 AreIdle y ks n = (i : ℕ) (k : Client) → i < n → slice_get ks i ≡ Some k → MakesNone y k.state (length k.rest.now == 0)

@@ -5,6 +5,7 @@
 --     EndsRight ..             steps lead from p to a point with this memory and this log, and each disk that a crash at any moment leaves spells such files
 --     PlayEnds ok ..           from wherever the round began the turns of the clients lead on, and each disk that a crash at any moment of them leaves spells
 --                              such files
+--     TurnsGo ok ..            so they make turns, and what a step asks for is so behind them, whatever log there is
 --     HaltsOn upto ..          so does what is asked of the clients before this place where the round makes no steps more
 --     HaltsEnd ..              all are asked
 --     PlayLeaves ..            the turns, and what is asked behind them
@@ -20,11 +21,12 @@ use Rattle.dali_crash.specs.Traces.{Start}
 use Rattle.dali_traces.specs.Disks.{Spells}
 use Rattle.dali_traces.specs.Bridges.{LeavesRightAt}
 use Rattle.dali_vault.specs.Vaulted.{Vaulted}
+use Rattle.dali_whole.specs.Cores.{IsNoShorter}
 use Rattle.dali_whole.specs.Moments.{Within}
 use Rattle.dali_transcripts.specs.Transcripts.{Told}
 use Rattle.dali_turns.specs.declared.client.Client.{Client}
 use Rattle.dali_round.specs.Leads.{BeginsAt}
-use Rattle.dali_round.specs.Played.{Played, Halting}
+use Rattle.dali_round.specs.Played.{HavePlaces, Played, Halting, PlayGoes}
 
 pub record IsRightBetween (s : Start) (p q : Point) (F : Files) : Type 0 where
   pub between : Point
@@ -59,6 +61,12 @@ module _ {V : Type 0} (told : V → Option Disk) (may_leave : V → Disk → Typ
   PlayEnds false precheck ks gs y v js hs z u =
       (s : Start) (p : Point) (bs : List Told) (f : Played told may_leave faults true precheck s p bs ks gs y v)
       → (j : Halting told may_leave faults 0 precheck s p bs js hs z u) × (steps : List StoreStep) × IsPointCourse f.to steps j.to × Within told moment left_since v u (LeavesBetween s f.to j.to)
+
+  pub record TurnsGo (ok precheck : Bool) (ks : List Client) (gs : List RegionState) (y : SystemState) (v : Vaulted V) (js : List Client) (hs : List RegionState) (z : SystemState) (u : Vaulted V) : Type 0 where
+    pub goes : PlayGoes told may_leave faults precheck ks gs y v ok js hs z u
+    pub places : HavePlaces told js hs u
+    pub longer : IsNoShorter told v u
+    pub any_moment : PlayEnds ok precheck ks gs y v js hs z u
 
   abbrev pub HaltsOn : ℕ → Bool → List Client → List RegionState → SystemState → Vaulted V → List RegionState → SystemState → Vaulted V → Type 0
   HaltsOn upto precheck ks gs y v hs z u =

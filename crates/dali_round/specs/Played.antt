@@ -3,14 +3,17 @@
 --     AreNew bs ks             the clients of blocks
 --     AreOver ks               each client is done
 --     IsSeated ok ..           a client stands between two steps, or, where memory was wanted, in one that was cut short
---     Played ok ..             the round of these blocks has come from the point p to where the core stands, with these clients
+--     PlayedSo IsAt AreOwned ..
+--                              the round of these blocks has come from the point p to where the core stands, with these
+--                              clients: IsAt holds of each of them at its place, and AreOwned holds
+--     Played ok ..             so it has: each client is seated, and, where ok, EachIsOwned holds
 --     IsHalting from i ..      a client stands in a step that may be cut there; or it isn't asked yet, and stands between two steps or is gone
 --     Halting from ..          the round makes no steps more, and the clients before this place were asked to end what can't be cut
 --     MoveGoes ok ..           a step of a client, or none; where memory was wanted it is gone then
 --     PlayGoes ok ..           the round goes on from wherever it began, or makes no steps more
 --     HaltsGo ..               then all are asked, wherever that was
 --     HavePlaces ks gs v       of each client and the image files is so what a step asks for, whatever log there is
-use Rattle.std.specs.Prelude.{◌≡◌, ◌⊎◌, ◌≤◌, ℕ, Bool, true, false, ◌==◌, List, Option, Some, None, length, map, slice_get, IfSome}
+use Rattle.std.specs.Prelude.{◌≡◌, ◌⊎◌, ◌≤◌, ⊤, ℕ, Bool, true, false, ◌==◌, List, Option, Some, None, length, map, slice_get, IfSome}
 use Rattle.std.specs.List.{list_all}
 use Rattle.dali_record.specs.declared.records.Record.{Record}
 use Rattle.dali_region.specs.State.{RegionState}
@@ -61,7 +64,8 @@ module _ {V : Type 0} (told : V → Option Disk) (may_leave : V → Disk → Typ
     pub came : Came told may_leave faults ok s B p w gs y v a k
     pub receipts : AreReceipts ok w k
 
-  pub record Played (ok precheck : Bool) (s : Start) (p : Point) (bs : List Told) (ks : List Client) (gs : List RegionState) (y : SystemState) (v : Vaulted V) : Type 0 where
+  pub record PlayedSo (IsAt : ℕ → Start → List (List Record) → Point → World → List RegionState → SystemState → Vaulted V → Standing → Client → Type 0) (AreOwned : Type 0)
+      (precheck : Bool) (s : Start) (p : Point) (bs : List Told) (ks : List Client) (gs : List RegionState) (y : SystemState) (v : Vaulted V) : Type 0 where
     pub are : AreBlocks bs
     pub log : p.log ≡ log_after s.log p.core.system
     pub to : Point
@@ -77,29 +81,18 @@ module _ {V : Type 0} (told : V → Option Disk) (may_leave : V → Disk → Typ
     pub standings : List Standing
     pub blocks : map told_of standings ≡ bs
     pub count : length ks ≡ length standings
-    pub seats : (i : ℕ) (a : Standing) (k : Client) → slice_get standings i ≡ Some a → slice_get ks i ≡ Some k → IsSeated ok s batches to world gs y v a k
-    pub owned : ok ≡ true → EachIsOwned ks y
+    pub seats : (i : ℕ) (a : Standing) (k : Client) → slice_get standings i ≡ Some a → slice_get ks i ≡ Some k → IsAt i s batches to world gs y v a k
+    pub owned : AreOwned
+
+  abbrev pub Played : (ok precheck : Bool) → Start → Point → List Told → List Client → List RegionState → SystemState → Vaulted V → Type 0
+  Played ok precheck s p bs ks gs y v = PlayedSo (λ (i : ℕ). IsSeated ok) (ok ≡ true → EachIsOwned ks y) precheck s p bs ks gs y v
 
   -- ---- the round makes no steps more
   abbrev pub IsHalting : (from i : ℕ) → Start → List (List Record) → Point → World → List RegionState → SystemState → Vaulted V → Standing → Client → Type 0
   IsHalting from i s B p w gs y v a k = ((from ≤ i → k.state ≡ Gone) × IsSeated false s B p w gs y v a k) ⊎ ((from ≤ i) × IsSeated true s B p w gs y v a k)
 
-  pub record Halting (from : ℕ) (precheck : Bool) (s : Start) (p : Point) (bs : List Told) (ks : List Client) (gs : List RegionState) (y : SystemState) (v : Vaulted V) : Type 0 where
-    pub are : AreBlocks bs
-    pub log : p.log ≡ log_after s.log p.core.system
-    pub to : Point
-    pub batches : List (List Record)
-    pub steps : List StoreStep
-    pub course : IsPointCourse p steps to
-    pub world : World
-    pub old_is : world.old ≡ p.core
-    pub before_is : world.before ≡ p.log
-    pub stood : Stood told may_leave faults s batches to world precheck gs y v
-    pub owners : list_all (λ (x : Happening). is_among bs x.1) world.happened ≡ true
-    pub standings : List Standing
-    pub blocks : map told_of standings ≡ bs
-    pub count : length ks ≡ length standings
-    pub seats : (i : ℕ) (a : Standing) (k : Client) → slice_get standings i ≡ Some a → slice_get ks i ≡ Some k → IsHalting from i s batches to world gs y v a k
+  abbrev pub Halting : (from : ℕ) → (precheck : Bool) → Start → Point → List Told → List Client → List RegionState → SystemState → Vaulted V → Type 0
+  Halting from precheck s p bs ks gs y v = PlayedSo (IsHalting from) ⊤ precheck s p bs ks gs y v
 
   abbrev pub Plays : Bool → Bool → Start → Point → List Told → List Client → List RegionState → SystemState → Vaulted V → Type 0
   Plays true precheck s p bs ks gs y v = Played true precheck s p bs ks gs y v

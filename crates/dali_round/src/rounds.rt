@@ -7,10 +7,10 @@ ghost use Rattle.dali_round.specs.Leads.{is_done, RoundGoes};
 ghost use Rattle.dali_turns.specs.Moments.{TurnLeavesRight};
 ghost use Rattle.dali_turns.specs.Places.{HasPlaces, PlacesGo};
 ghost use Rattle.dali_turns.specs.Waits.{StaysPut};
-ghost use Rattle.dali_round.specs.Played.{AreNew, AreOver, HavePlaces, MoveGoes, PlayGoes, HaltsGo};
+ghost use Rattle.dali_round.specs.Played.{AreNew, AreOver, HavePlaces, MoveGoes, HaltsGo};
 ghost use Rattle.dali_round.specs.Ends.{EndGoes, named};
-ghost use Rattle.dali_round.specs.Idle.{AreIdle, IsOrder, NoneHasCome};
-ghost use Rattle.dali_round.specs.Moments.{PlayEnds, HaltsEnd, PlayLeaves, RoundLeavesRight};
+ghost use Rattle.dali_round.specs.Idle.{AreIdle, IsOrder, MayPlay, NoneHasCome};
+ghost use Rattle.dali_round.specs.Moments.{TurnsGo, HaltsEnd, PlayLeaves, RoundLeavesRight};
 
 use dali_bytes::OutOfMemory;
 use dali_clients::{Block, Transcript};
@@ -98,13 +98,9 @@ fn make_turns<V: Store, G: Gate>(
     core: &mut Core<V>,
     setting: &Setting<'_, G>,
 ) -> Result<bool, OutOfMemory>
-    requires places { HavePlaces V.told clients.old core.old.regions.items core.old.vault }
-    requires order { IsOrder order.now (length clients.old) }
-    ensures goes { PlayGoes V.told V.may_leave V.faults setting.now.precheck clients.old core.old.regions.items core.old.system.state core.old.vault (is_ok result) clients.new core.new.regions.items core.new.system.state core.new.vault }
-    ensures places { HavePlaces V.told clients.new core.new.regions.items core.new.vault }
-    ensures longer { IsNoShorter V.told core.old.vault core.new.vault }
+    requires { MayPlay V.told clients.old order.now core.old.regions.items core.old.vault }
+    ensures turns { TurnsGo V.told V.may_leave V.faults V.moment V.left_since (is_ok result) setting.now.precheck clients.old core.old.regions.items core.old.system.state core.old.vault clients.new core.new.regions.items core.new.system.state core.new.vault }
     ensures idle { result ≡ Ok false → AreIdle core.new.system.state clients.new (length clients.new) }
-    ensures any_moment { PlayEnds V.told V.may_leave V.faults V.moment V.left_since (is_ok result) setting.now.precheck clients.old core.old.regions.items core.old.system.state core.old.vault clients.new core.new.regions.items core.new.system.state core.new.vault }
 {
     let mut went_on = false;
     for place in order {
@@ -137,14 +133,10 @@ fn run<V: Store, G: Gate>(
     core: &mut Core<V>,
     setting: &Setting<'_, G>,
 ) -> Result<bool, OutOfMemory>
-    requires places { HavePlaces V.told clients.old core.old.regions.items core.old.vault }
-    requires order { IsOrder order.now (length clients.old) }
-    ensures goes { PlayGoes V.told V.may_leave V.faults setting.now.precheck clients.old core.old.regions.items core.old.system.state core.old.vault (is_ok result) clients.new core.new.regions.items core.new.system.state core.new.vault }
-    ensures places { HavePlaces V.told clients.new core.new.regions.items core.new.vault }
-    ensures longer { IsNoShorter V.told core.old.vault core.new.vault }
+    requires { MayPlay V.told clients.old order.now core.old.regions.items core.old.vault }
+    ensures turns { TurnsGo V.told V.may_leave V.faults V.moment V.left_since (is_ok result) setting.now.precheck clients.old core.old.regions.items core.old.system.state core.old.vault clients.new core.new.regions.items core.new.system.state core.new.vault }
     ensures over { result ≡ Ok true → AreOver clients.new }
     ensures stuck { result ≡ Ok false → NoneHasCome V.told V.may_leave V.faults setting.now.precheck clients.old core.old.regions.items core.old.system.state core.old.vault }
-    ensures any_moment { PlayEnds V.told V.may_leave V.faults V.moment V.left_since (is_ok result) setting.now.precheck clients.old core.old.regions.items core.old.system.state core.old.vault clients.new core.new.regions.items core.new.system.state core.new.vault }
 {
     let mut paces = Paces::new(clients.len());
     for _ in 0..u64::MAX {
@@ -175,8 +167,7 @@ fn play<V: Store, G: Gate>(
     core: &mut Core<V>,
     setting: &Setting<'_, G>,
 ) -> RoundEnd
-    requires places { HavePlaces V.told clients.old core.old.regions.items core.old.vault }
-    requires order { IsOrder order.now (length clients.old) }
+    requires { MayPlay V.told clients.old order.now core.old.regions.items core.old.vault }
     ensures goes { EndGoes V.told V.may_leave V.faults setting.now.precheck clients.old core.old.regions.items core.old.system.state core.old.vault (is_done result) clients.new core.new.regions.items core.new.system.state core.new.vault }
     ensures places { IfSome (V.told core.new.vault.store) (HoldsPlaces core.new.regions.items) }
     ensures longer { IsNoShorter V.told core.old.vault core.new.vault }

@@ -6,6 +6,7 @@ use Rattle.std.specs.List.{AllByRecursion, list_all}
 use Rattle.std.proofs.lemmas.Bool.Decides.{Decides-eqb}
 use Rattle.std.proofs.lemmas.Bool.{and_parts}
 use Rattle.std.proofs.lemmas.Option.{none-some}
+use Rattle.dali_lists.proofs.Lists.{EachFrom}
 use Rattle.dali_record.specs.declared.records.Record.{Record}
 use Rattle.dali_record.specs.declared.records.Record.TheVariants.{Begin, Done}
 use Rattle.dali_record.specs.Legal.{TxnState, Unbegun, txn_state}
@@ -21,7 +22,7 @@ use Rattle.dali_system.specs.Steps.{begun, in_state}
 use Rattle.dali_system.specs.Wholes.{latched_in}
 use Rattle.dali_system.specs.Keeps.{IsFree}
 use Rattle.dali_system.specs.Regions.{RegionStep, Latch, NoteReads, Update, TakeBack, Clean}
-use Rattle.dali_system.specs.Courses.{Step, Begins, Operates, TakesBack, Frees, Answers, Commits, Ends, Locks, Refuses, OnRegion, Dies, Claims, GivesBack, Recovers, Moment, AuditsBy, IsStep, IsCourse}
+use Rattle.dali_system.specs.Courses.{Step, Begins, Operates, TakesBack, Frees, Answers, Ends, Locks, Refuses, OnRegion, Dies, Claims, GivesBack, Recovers, Checkpoints, Takes, Flushes, Faults, ReadFails, Moment, AuditsBy, IsStep, IsCourse}
 use Rattle.dali_crash.specs.Checkpoints.{Point, moment_of}
 use Rattle.dali_crash.specs.Traces.{Start, bases_of}
 use Rattle.dali_vault.specs.Vaulted.{Vaulted}
@@ -53,7 +54,7 @@ use Rattle.dali_ends.specs.Ended.{HasCome}
 use Rattle.dali_ends.proofs.Walking.{is_change, is_of_end, all_append}
 use Rattle.dali_ends.proofs.Releasing.{hold_is_dead, dead_on, release_leads, release_of_end}
 use Rattle.dali_ends.proofs.Standing.{run_at, Arrived, arrived_of, come_of_end, arrive}
-use Rattle.dali_ends.proofs.Wholes.{AreNoCleaner, core_course, places_told, whole_here, arrived_no_cleaner}
+use Rattle.dali_ends.proofs.Wholes.{core_course, places_told, whole_here, arrived_no_cleaner, IsNoCleaner}
 use Rattle.dali_rounds.specs.Went.{is_calm, Went}
 use Rattle.dali_rounds.specs.Calls.{IsOfEnd, IsLetGo, BeginGoes, AskGoes, OperateGoes, DieGoes, AnswerGoes, PerformGoes, ReleaseGoes, ReleaseTells}
 use Rattle.dali_rounds.proofs.Going.{may_at, plan_at, dead_set, from_here, course_goes}
@@ -69,15 +70,13 @@ own_calm_in t r x None own = absurd own
 own_calm_in t r x (Some g) own = own_calm_on t r x g own
 
 own_calm : (precheck : Bool) (t : ℕ) (c : CoreState) (x : Step) → IsOwnStep precheck t c x → is_calm x ≡ true
-own_calm precheck t c (Locks u k m) own = refl
 own_calm precheck t c (OnRegion r x) own = own_calm_in t r x (slice_get c.regions r) own
-own_calm precheck t c (Operates u b) own = refl
-own_calm precheck t c (TakesBack u b) own = refl
-own_calm precheck t c (Frees u b) own = refl
-own_calm precheck t c (Answers u call a) own = refl
-own_calm precheck t c (Commits u) own = refl
-own_calm precheck t c (Ends u) own = refl
-own_calm precheck t c x own = absurd own
+own_calm precheck t c (Checkpoints b) own = absurd own
+own_calm precheck t c Takes own = absurd own
+own_calm precheck t c Flushes own = absurd own
+own_calm precheck t c (Faults n) own = absurd own
+own_calm precheck t c (ReadFails n) own = absurd own
+own_calm precheck t c _ own = refl
 
 leads_calm : (precheck : Bool) (t : ℕ) (L M : List Record) (c d : CoreState) (xs : List Step) → Leads precheck t L c xs M d → list_all is_calm xs ≡ true
 leads_calm precheck t L M c d [] l = refl
@@ -322,7 +321,7 @@ module _ {V : Type 0} (told : V → Option Disk) (may_leave : V → Disk → Typ
     refl,
   )
     where
-      no_cleaner : AreNoCleaner gs hs
+      no_cleaner : EachFrom IsNoCleaner gs hs
       no_cleaner = arrived_no_cleaner told may_leave faults s B p gs hs y z v steps log k kind a
 
       onward : (z.sizes ≡ y.sizes) × (y.next ≤ z.next)

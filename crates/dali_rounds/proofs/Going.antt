@@ -2,7 +2,7 @@
 use Rattle.std.proofs.Common.{◌≡◌, ◌≢◌, ◌<◌, ℕ, Bool, true, false, List, ◌++◌, Option, Some, IfSome, IsSome, None, refl, ap, sym, subst, ◌∙◌, slice_get, slice_set}
 use Rattle.std.specs.Prelude.{◌==◌}
 use Rattle.std.proofs.lemmas.Bool.Decides.{Decides-eqb}
-use Rattle.dali_lists.proofs.Lists.{get_set, get_set_other}
+use Rattle.dali_lists.proofs.Lists.{get_set, get_set_other, EachFrom}
 use Rattle.dali_record.specs.declared.records.Record.{Record}
 use Rattle.dali_region.specs.State.{RegionState}
 use Rattle.dali_att.specs.declared.state.State.TheVariants.{Live}
@@ -29,7 +29,7 @@ use Rattle.dali_stepwise.specs.Beside.{LeavesBe}
 use Rattle.dali_stepwise.proofs.Waiting.{course_leaves, call_waits}
 use Rattle.dali_ends.specs.Stands.{StandsAt}
 use Rattle.dali_ends.proofs.Standing.{moment_here}
-use Rattle.dali_ends.proofs.Wholes.{AreNoCleaner, course_no_cleaner, places_told, whole_here}
+use Rattle.dali_ends.proofs.Wholes.{course_no_cleaner, places_told, whole_here, IsNoCleaner}
 use Rattle.dali_rounds.specs.Went.{is_open, CourseGoes, BetweenEach, BetweenGoes}
 use Rattle.dali_rounds.proofs.Calm.{calm_steps, taken_course}
 
@@ -126,8 +126,8 @@ module _ {V : Type 0} (told : V → Option Disk) (may_leave : V → Disk → Typ
       older : (u : ℕ) → is_open (state_of p.core.system u) ≡ true → u < p.core.system.next
       older u lives = rows_are_older (bases_of s) p.log p.core (runs_here s B p gs y v k) u (open_row (row_of p.core.system u) lives)
 
-      cleaner : AreNoCleaner gs hs
-      cleaner = subst (λ (rs : List RegionState). AreNoCleaner rs hs) k.at.regions (course_no_cleaner (moment_of p) n steps (calm_steps steps calm) course)
+      cleaner : EachFrom IsNoCleaner gs hs
+      cleaner = subst (λ (rs : List RegionState). EachFrom IsNoCleaner rs hs) k.at.regions (course_no_cleaner (moment_of p) n steps (calm_steps steps calm) course)
 
   -- ---- between the calls
   pub between_each : BetweenEach told may_leave faults

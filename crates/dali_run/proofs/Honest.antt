@@ -1,6 +1,6 @@
 -- Runs without pokes are honest by themselves.
 use Rattle.std.proofs.Common.{◌≡◌, ◌⊎◌, ◌≤◌, ℕ, zero, suc, ◌+◌, ◌-◌, ◌==◌, ◌%◌, Bool, true, false, List, [], ◌∷◌, ◌++◌, Option, Some, None, length, map, flat_map, take, refl, sym, ◌∙◌, ap, subst, inl, inr}
-use Rattle.std.specs.Prelude.{◌||◌, IfSome, filter_map, if◌then◌else◌, slice_get}
+use Rattle.std.specs.Prelude.{◌||◌, IfSome, filter_map, slice_get}
 use Rattle.std.specs.List.{list_any, range_with_len}
 use Rattle.std.proofs.lemmas.Bool.{or_parts}
 use Rattle.dali_arguments.specs.Laws.{IsInRange}
@@ -52,6 +52,7 @@ use Rattle.dali_run.proofs.Surviving.{begins_down, next_fit, step_goes, tells_on
 use Rattle.dali_run.proofs.Telling.{round_pokes, step_told}
 use Rattle.dali_run.proofs.Unharmed.{cores_are_honest, stands_honest, within_honest}
 use Rattle.dali_run.proofs.Unstrayed.{AreQuiet, coming_none, done_none, quiet_round}
+use Rattle.dali_run.proofs.Serves.{second}
 
 -- ---- scripts without pokes
 abbrev nothing : ℕ → List ℕ
@@ -86,9 +87,6 @@ next_none : (script : List Command) (count : ℕ) (command : Command) → list_a
 next_none script count command none next = last_none (take count script) command (subst (λ (l : List Command). list_any pokes l ≡ false) next (front_none (count + 1) script none))
 
 -- ---- generated blocks have none
-second : (first a b c : Bool) (k : ℕ) (v : List ℕ) → List ClientCommand
-second first a b c k v = if first then [] else (if a then clients.Update k v ∷ [] else (if b then clients.Delete k ∷ [] else (if c then clients.Get k ∷ [] else [])))
-
 second_none : (first a b c : Bool) (k : ℕ) (v : List ℕ) (rest : List ClientCommand) → list_any is_poke ((second first a b c k v ++ clients.Commit ∷ []) ++ rest) ≡ list_any is_poke rest
 unfolding second
 second_none true a b c k v rest = refl

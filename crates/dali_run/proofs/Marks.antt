@@ -1,6 +1,6 @@
 -- A clean-up leaves each region's stray writes as they are, and the engine running.
-use Rattle.std.proofs.Common.{◌≡◌, ℕ, zero, suc, true, false, List, [], ◌∷◌, Some, None, map, refl, sym, ◌∙◌, ap, subst, inl, inr, ⊎_elim}
-use Rattle.std.specs.Prelude.{◌⊎◌, slice_get, slice_set}
+use Rattle.std.proofs.Common.{◌≡◌, ℕ, zero, suc, true, false, List, [], ◌∷◌, Some, None, map, refl, sym, ◌∙◌, ap, subst, inl, inr}
+use Rattle.std.specs.Prelude.{slice_get, slice_set}
 use Rattle.std.specs.List.{list_all}
 use Rattle.dali_clean.specs.Steps.{is_own_change, is_own_step}
 use Rattle.dali_clean.proofs.Steps.{own_steps}
@@ -16,6 +16,7 @@ use Rattle.dali_system.specs.Regions.{RegionStep, Poke, Clean, region_after}
 use Rattle.dali_system.specs.State.{CoreState, SystemState}
 use Rattle.dali_whole.specs.declared.whole.Core.{Core}
 use Rattle.std.proofs.lemmas.Bool.{eq-eqb, and_parts as both}
+use Rattle.dali_lists.proofs.Lists.{EachFrom, each_same, each_set, each_then}
 use Rattle.dali_run.specs.Steps.{dead_in, CleansAll, CleansUp, HasCleaned}
 use Rattle.dali_run.proofs.Cleanings.{AllDead, At, idle_runs, moved_one}
 use Rattle.dali_run.proofs.Standing.{IsStanding}
@@ -24,30 +25,14 @@ use Rattle.dali_run.proofs.Standing.{IsStanding}
 abbrev pub SameMarks : RegionState → RegionState → Type 0
 SameMarks g h = (h.stray ≡ g.stray) × (h.poked ≡ g.poked)
 
-abbrev pub KeepMarks : List RegionState → List RegionState → Type 0
-KeepMarks gs hs = (r : ℕ) (h : RegionState) → slice_get hs r ≡ Some h → (g : RegionState) × (slice_get gs r ≡ Some g) × SameMarks g h
+pub keep_same : (gs hs : List RegionState) → hs ≡ gs → EachFrom SameMarks gs hs
+keep_same gs hs same = subst (λ (l : List RegionState). EachFrom SameMarks gs l) (sym same) (each_same SameMarks gs (λ g. (refl, refl)))
 
-pub keep_same : (gs hs : List RegionState) → hs ≡ gs → KeepMarks gs hs
-keep_same gs hs same = λ r h e. (h, ap (λ (l : List RegionState). slice_get l r) (sym same) ∙ e, (refl, refl))
+pub keep_then : (gs hs is : List RegionState) → EachFrom SameMarks gs hs → EachFrom SameMarks hs is → EachFrom SameMarks gs is
+keep_then gs hs is = each_then SameMarks gs hs is (λ g h k one two. (two.0 ∙ one.0, two.1 ∙ one.1))
 
-pub keep_then : (gs hs is : List RegionState) → KeepMarks gs hs → KeepMarks hs is → KeepMarks gs is
-keep_then gs hs is one two = λ r k e.
-    let h = two r k e in
-    let g = one r h.0 h.1 in (g.0, g.1, (h.2.0 ∙ g.2.0, h.2.1 ∙ g.2.1))
-
-one_or_other : (gs : List RegionState) (r : ℕ) (k : RegionState) (q : ℕ) (h : RegionState) → slice_get (slice_set gs r k) q ≡ Some h → ((q ≡ r) × (h ≡ k)) ⊎ (slice_get gs q ≡ Some h)
-one_or_other [] r k q h e = absurd (cc e)
-one_or_other (g ∷ gs) zero k zero h e = inl (refl, cc e)
-one_or_other (g ∷ gs) zero k (suc q) h e = inr e
-one_or_other (g ∷ gs) (suc r) k zero h e = inr e
-one_or_other (g ∷ gs) (suc r) k (suc q) h e = ⊎_elim (λ both. inl (ap suc both.0, both.1)) (λ other. inr other) (one_or_other gs r k q h e)
-
-keep_set : (gs hs : List RegionState) (r : ℕ) (g k : RegionState) → hs ≡ slice_set gs r k → slice_get gs r ≡ Some g → SameMarks g k → KeepMarks gs hs
-keep_set gs hs r g k is at same = λ q h e.
-    ⊎_elim
-    (λ both. (g, ap (λ (n : ℕ). slice_get gs n) both.0 ∙ at, (ap (λ (x : RegionState). x.stray) both.1 ∙ same.0, ap (λ (x : RegionState). x.poked) both.1 ∙ same.1)))
-    (λ other. (h, other, (refl, refl)))
-    (one_or_other gs r k q h (ap (λ (l : List RegionState). slice_get l q) (sym is) ∙ e))
+keep_set : (gs hs : List RegionState) (r : ℕ) (g k : RegionState) → hs ≡ slice_set gs r k → slice_get gs r ≡ Some g → SameMarks g k → EachFrom SameMarks gs hs
+keep_set gs hs r g k is at same = subst (λ (l : List RegionState). EachFrom SameMarks gs l) (sym is) (each_set SameMarks gs r g k (λ h. (refl, refl)) at same)
 
 pub none_loaded : (image : List (List ℕ)) (r : ℕ) (g : RegionState) → slice_get (map loaded image) r ≡ Some g → (g.stray ≡ 0) × (g.poked ≡ false)
 none_loaded [] r g e = absurd (cc e)
@@ -60,7 +45,7 @@ own_change t (Poke word mask) g own = absurd (cc own)
 own_change t (Clean side) g own = absurd (cc own)
 own_change t _ g own = (refl, refl)
 
-own_step : (t : ℕ) (m n : Moment) (x : Step) → is_own_step t x ≡ true → IsStepAt m x n → KeepMarks m.core.regions n.core.regions
+own_step : (t : ℕ) (m n : Moment) (x : Step) → is_own_step t x ≡ true → IsStepAt m x n → EachFrom SameMarks m.core.regions n.core.regions
 own_step t m n (TakesBack u b) own s =
     keep_set m.core.regions n.core.regions b.region s.0.0 (touched s.0.0) (ap (λ (c : CoreState). c.regions) s.0.2.1) s.0.1.at (refl, refl)
 own_step t m n (Ends u) own s = keep_same m.core.regions n.core.regions (ap (λ (c : CoreState). c.regions) s.0.2.1)
@@ -81,7 +66,7 @@ own_step_runs t m n (Recovers r) own s = ap (λ (c : CoreState). c.system.stop) 
 own_step_runs t m n (OnRegion r x) own s = ap (λ (c : CoreState). c.system.stop) s.0.3.1
 own_step_runs t m n _ own s = absurd (cc own)
 
-own_course : (t : ℕ) (p q : Point) (xs : List Step) → list_all (is_own_step t) xs ≡ true → IsPointCourse p (map Does xs) q → KeepMarks p.core.regions q.core.regions
+own_course : (t : ℕ) (p q : Point) (xs : List Step) → list_all (is_own_step t) xs ≡ true → IsPointCourse p (map Does xs) q → EachFrom SameMarks p.core.regions q.core.regions
 own_course t p q [] own same = keep_same p.core.regions q.core.regions (ap (λ (z : Point). z.core.regions) (sym same))
 own_course t p q (x ∷ xs) own course =
     let parts = both (is_own_step t x) (list_all (is_own_step t) xs) own in
@@ -97,7 +82,7 @@ own_course_runs t p q (x ∷ xs) own course =
 -- ---- clean-ups
 -- each region has the stray writes that it had, and the engine runs on if it ran
 pub record Stays {V : Type 0} (c d : Core (Fuse V)) : Type 0 where
-  pub marks : KeepMarks c.regions.items d.regions.items
+  pub marks : EachFrom SameMarks c.regions.items d.regions.items
   pub stop : d.system.state.stop ≡ c.system.state.stop
 
 stays_then : {V : Type 0} (c d e : Core (Fuse V)) → Stays c d → Stays d e → Stays c e
@@ -111,8 +96,8 @@ module _ {V : Type 0} (g : Ghosts V) where
       let own = own_steps p.core.system t (Ends t) at.steps at.by (eq-eqb t t refl) in
       record {
         marks =
-            subst (λ (hs : List RegionState). KeepMarks c.regions.items hs) at.at.regions
-            (subst (λ (gs : List RegionState). KeepMarks gs at.to.core.regions) begins.stands.at.regions (own_course t p at.to at.steps own at.course));
+            subst (λ (hs : List RegionState). EachFrom SameMarks c.regions.items hs) at.at.regions
+            (subst (λ (gs : List RegionState). EachFrom SameMarks gs at.to.core.regions) begins.stands.at.regions (own_course t p at.to at.steps own at.course));
         stop =
             ap (λ (y : SystemState). y.stop) (sym at.at.system)
             ∙ (own_course_runs t p at.to at.steps own at.course ∙ ap (λ (y : SystemState). y.stop) begins.stands.at.system);

@@ -46,7 +46,7 @@ all_fit [] e = tt
 all_fit (t ∷ ts) e = let two = both_none (full_among (lines_in t)) (first_full ts) e in (lines_fit (lines_in t) two.0, all_fit ts two.1)
 
 -- ---- the acts
-second : (first a b c : Bool) (k : ℕ) (v : List ℕ) → List ClientCommand
+unfoldable pub second : (first a b c : Bool) (k : ℕ) (v : List ℕ) → List ClientCommand
 second first a b c k v = if first then [] else (if a then Update k v ∷ [] else (if b then Delete k ∷ [] else (if c then Get k ∷ [] else [])))
 
 second_acts : (first a b c : Bool) (k : ℕ) (v : List ℕ) (acts : List Act) → map act_by (second first a b c k v ++ Commit ∷ []) ++ acts ≡ map Calls (filter_map call_in (second first a b c k v ++ Commit ∷ [])) ++ Commits ∷ acts

@@ -23,7 +23,7 @@ use Rattle.dali_system.specs.State.{CoreState}
 use Rattle.dali_system.specs.Steps.{audit_record}
 use Rattle.dali_transcripts.proofs.Owned.{own_ascend}
 use Rattle.dali_transcripts.specs.Laws.{IsIn}
-use Rattle.dali_transcripts.specs.Moves.{Receipt, Place, Outside, Spot, Move, Begins, BeginsAgain, IsRefusedBegin, Pokes, PokesNothing, Audits as AuditsOnce, IsRefusedAudit, Checkpoints, FailsCheckpoint, IsRefusedCheckpoint, from, said, own, to, start, audit_own, failure_own, spanned}
+use Rattle.dali_transcripts.specs.Moves.{Receipt, Place, Outside, Spot, Move, Begins, BeginsAgain, IsRefusedBegin, Ends, StaysOpen, Pokes, PokesNothing, Audits as AuditsOnce, IsRefusedAudit, Checkpoints, FailsCheckpoint, IsRefusedCheckpoint, from, said, own, to, start, audit_own, failure_own, spanned}
 use Rattle.dali_transcripts.specs.Rounds.{HoldsTogether}
 use Rattle.dali_transcripts.specs.Transcripts.{EachTells, IsPath, IsTranscript, count_with, deeds_of, is_among, own_by, owned, said_by}
 use Rattle.dali_transcripts.specs.Words.{Act, Audits, Checkpoints as CheckpointAct, Said, AuditSaid, CheckpointSaid, CheckpointFailed, Refused}
@@ -125,16 +125,9 @@ lone_move (IsRefusedCheckpoint s span late work n why rest) calm only one =
 lone_move _ calm only one = absurd calm
 
 no_more : (x : Move) → IsCalm (from x).place → (from x).rest ≡ [] → ⊥
-no_more (Begins t n rest) calm none = absurd (cc none)
-no_more (IsRefusedBegin place s n why rest) calm none = absurd (cc none)
-no_more (Pokes s n r w m rest) calm none = absurd (cc none)
-no_more (PokesNothing s r w m rest) calm none = absurd (cc none)
-no_more (AuditsOnce b n found failed rest) calm none = absurd (cc none)
-no_more (IsRefusedAudit s work n why rest) calm none = absurd (cc none)
-no_more (Checkpoints since b n m until current rest) calm none = absurd (cc none)
-no_more (FailsCheckpoint since b n until r rs failed rest) calm none = absurd (cc none)
-no_more (IsRefusedCheckpoint s span late work n why rest) calm none = absurd (cc none)
-no_more x calm none = absurd calm
+no_more (Ends t tries cs d work n) calm none = absurd calm
+no_more (StaysOpen t tries cs d s work n cause) calm none = absurd calm
+no_more _ calm none = absurd (cc none)
 
 tells_so : (lines lines' : List Said) (did did' : List Receipt) → lines ≡ lines' → did ≡ did' → TellsOnce lines did → TellsOnce lines' did'
 tells_so lines lines' did did' e f once = subst (λ (l : List Said). TellsOnce l did') e (subst (λ (l : List Receipt). TellsOnce lines l) f once)

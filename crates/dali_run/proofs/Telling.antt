@@ -3,7 +3,7 @@ use Rattle.std.proofs.Common.{◌≡◌, ◌≢◌, ◌<◌, ◌≤◌, ℕ, Boo
 use Rattle.std.specs.Prelude.{◌⊎◌, ◌↔◌, ◌||◌, Contains, IfSome, IsTrue, bit_xor, filter_map, is_some, slice_get}
 use Rattle.std.proofs.lemmas.List.{append-nil}
 use Rattle.std.proofs.lemmas.Option.{slice_get_within}
-use Rattle.dali_lists.proofs.Lists.{get_within}
+use Rattle.dali_lists.proofs.Lists.{get_within, EachFrom}
 use Rattle.dali_clients.specs.Said.{Transcribed}
 use Rattle.dali_geometry.specs.Places.{regions}
 use Rattle.dali_listing.specs.Listing.{in_memory}
@@ -43,7 +43,7 @@ use Rattle.dali_run.specs.Survives.{AllSurvive, AnyFiles, IsAPoint, IsOwn, IsPoi
 use Rattle.dali_run.specs.Told.{AreFit, IsFit, alone, told_by}
 use Rattle.dali_run.specs.Unpoked.{HasServed}
 use Rattle.dali_run.proofs.Fit.{all_fit, only_one}
-use Rattle.dali_run.proofs.Marks.{KeepMarks, cleaned_stays, keep_same, none_loaded}
+use Rattle.dali_run.proofs.Marks.{cleaned_stays, keep_same, none_loaded, SameMarks}
 use Rattle.dali_run.proofs.Standing.{IsStanding, Stands, standing_of, stands_of, step_stands}
 use Rattle.dali_run.proofs.Straying.{below_at, is_lone, lone_names}
 use Rattle.dali_run.proofs.Sums.{any_both, poked_told, stray_told, xor_both}
@@ -55,7 +55,7 @@ use Rattle.dali_run.proofs.Unstrayed.{done_none}
 abbrev AreTheirs : (ℕ → List ℕ) → List RegionState → Type 0
 AreTheirs masks gs = (r : ℕ) (g : RegionState) → slice_get gs r ≡ Some g → (g.stray ≡ xor_of (masks r)) × (g.poked ≡ has_any (masks r))
 
-kept : (masks : ℕ → List ℕ) (gs hs : List RegionState) → KeepMarks gs hs → AreTheirs masks gs → AreTheirs masks hs
+kept : (masks : ℕ → List ℕ) (gs hs : List RegionState) → EachFrom SameMarks gs hs → AreTheirs masks gs → AreTheirs masks hs
 kept masks gs hs keep theirs = λ r h e.
     let was = keep r h e in
     let is = theirs r was.0 was.1 in (was.2.0 ∙ is.0, was.2.1 ∙ is.1)

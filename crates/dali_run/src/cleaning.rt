@@ -13,7 +13,7 @@ use crate::halt::Halt;
 use crate::program::Program;
 use crate::setting::Setting;
 use crate::states::down;
-use crate::texts::{text_of_line, text_of_records};
+use crate::texts::{text_of_line, text_of_records, text_of_stop};
 use dali_att::State;
 use dali_clean::CleanError;
 use dali_core::System;
@@ -90,13 +90,7 @@ fn cleanup_of<V: Store>(alloc: Global, core: &mut Core<Fuse<V>>) -> Result<Vec<u
     ensures flags { FlagsStay core.old.regions.items core.new.regions.items }
 {
     match core.system.stopped() {
-        Some(cause) => text_of_line(
-            alloc,
-            &Line::Stopped {
-                name: Name::Cleanup,
-                cause,
-            },
-        ),
+        Some(cause) => text_of_stop(alloc, Name::Cleanup, cause),
         None => {
             let dead = clean_dead(core)?;
             text_of_line(
@@ -147,13 +141,7 @@ fn show_of<V: Store>(alloc: Global, core: &mut Core<Fuse<V>>) -> Result<Vec<u8>,
     ensures flags { FlagsStay core.old.regions.items core.new.regions.items }
 {
     match core.system.stopped() {
-        Some(cause) => text_of_line(
-            alloc,
-            &Line::Stopped {
-                name: Name::Show,
-                cause,
-            },
-        ),
+        Some(cause) => text_of_stop(alloc, Name::Show, cause),
         None => {
             let _dead = clean_dead(core)?;
             text_of_core(alloc, core)
@@ -218,13 +206,7 @@ fn verify_of<V: Store>(alloc: Global, core: &mut Core<Fuse<V>>) -> Result<Vec<u8
     ensures flags { FlagsStay core.old.regions.items core.new.regions.items }
 {
     match core.system.stopped() {
-        Some(cause) => text_of_line(
-            alloc,
-            &Line::Stopped {
-                name: Name::Verify,
-                cause,
-            },
-        ),
+        Some(cause) => text_of_stop(alloc, Name::Verify, cause),
         None => {
             clean_dead(core)?;
             compare(alloc, core)

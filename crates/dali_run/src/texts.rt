@@ -16,8 +16,10 @@ use dali_clients::Transcript;
 use dali_listing::Listed;
 use dali_record::Numbers;
 use dali_report::{Line, client_line, line, said_line};
+use dali_script::Name;
 use dali_store::FileName;
 use dali_streams::{Failed, Sink, write_all};
+use dali_system::Cause;
 use itoa::Buffer;
 use std::alloc::Global;
 
@@ -29,6 +31,14 @@ pub fn text_of_line(alloc: Global, entry: &Line) -> Result<Vec<u8>, Halt>
     let mut text = Vec::new(alloc);
     line(entry, &mut text)?;
     Ok(text)
+}
+
+/// What a command says of an engine that is stopped. It takes memory for the text.
+pub fn text_of_stop(alloc: Global, name: Name, cause: Cause) -> Result<Vec<u8>, Halt>
+    ensures text { IfOk result (λ text. text.items ≡ texts (lines.Stopped name cause ∷ [])) }
+    ensures memory { IfErr result (λ halt. halt ≡ OutOfMemory) }
+{
+    text_of_line(alloc, &Line::Stopped { name, cause })
 }
 
 /// The lines of a restart.

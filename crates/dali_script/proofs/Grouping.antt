@@ -1,11 +1,11 @@
 -- The rounds of what was read stand apart; and the lines of a script have one grouping.
-use Rattle.std.proofs.Common.{◌≡◌, ℕ, ◌<◌, Bool, true, false, not, cond, List, [], ◌∷◌, ◌++◌, length, map, Option, Some, None, refl, ap, sym, subst, ◌∙◌, append_assoc, arith}
+use Rattle.std.proofs.Common.{◌≡◌, ℕ, ◌<◌, Bool, true, false, not, cond, List, [], ◌∷◌, ◌++◌, length, map, Option, Some, None, refl, ap, sym, subst, ◌∙◌, append_assoc, arith, ◌⊎◌, inl, inr}
 use Rattle.std.specs.Prelude.{flat_map, fold}
 use Rattle.std.proofs.lemmas.List.{append-nil}
 use Rattle.dali_script.specs.Lines.{is_empty}
 use Rattle.dali_script.specs.Places.{is_in_block, after}
 use Rattle.dali_script.specs.Grammar.{line_of_step, lines_of_block, lines_of_command, lines_of_script, round_in, is_round, IsGroupedBy, IsGrouped, IsGroupedAfter}
-use Rattle.dali_script.specs.Reading.{State, taken, step_of, single_of, with_single, ended}
+use Rattle.dali_script.specs.Reading.{State, taken, step_of, single_of, with_single, ended, with_step}
 use Rattle.dali_script.specs.declared.items.Item.{Item}
 use Rattle.dali_script.specs.declared.items.Item.TheVariants as item
 use Rattle.dali_script.specs.declared.places.Place.{Place}
@@ -16,7 +16,7 @@ use Rattle.dali_script.specs.declared.commands.Block.{Block}
 use Rattle.dali_script.specs.declared.commands.Command.{Command}
 use Rattle.dali_script.specs.declared.commands.Command.TheVariants as single
 use Rattle.dali_script.proofs.Verdicts.{stands}
-use Rattle.dali_script.proofs.Steps.{IsSound, MayFollow, nonempty, ended-some, start_is_out, outside_is_out, between_is_in, transaction_is_in, chosen}
+use Rattle.dali_script.proofs.Steps.{IsSound, MayFollow, nonempty, ended-some, chosen, AsStep, AsSingle, as_read}
 
 -- ---- a single command more
 pub grouped_single : (r : Bool) (cs : List Command) (c : Command) → round_in c ≡ None → IsGroupedAfter r cs → IsGroupedAfter r (cs ++ c ∷ [])
@@ -41,41 +41,18 @@ single_sound c s p e out sound =
 step_sound : (s : State) (steps : List ClientCommand) (p : Place) → is_in_block p ≡ true → IsSound s → IsSound (record s { steps = steps; place = p })
 step_sound s steps p inside sound = record { nothing = λ h. absurd (cc); grouped = sound.grouped; follows = sound.follows }
 
+plain_sound : (made : Item) (s : State) → IsSound s → AsStep made s.place ⊎ AsSingle made s.place → IsSound (chosen (is_in_block s.place) made s)
+plain_sound made s sound (inl (k, is, line, inside, still)) =
+    subst (λ (b : Bool). IsSound (chosen b made s)) (sym inside)
+    (subst (λ (o : Option ClientCommand). IsSound (record (with_step o s) { place = after made s.place })) (sym is) (step_sound s _ (after made s.place) still sound))
+plain_sound made s sound (inr (c, is, lines, alone, out, still)) =
+    subst (λ (b : Bool). IsSound (chosen b made s)) (sym out)
+    (subst (λ (o : Option Command). IsSound (record (with_single o s) { place = after made s.place })) (sym is) (single_sound c s (after made s.place) alone out sound))
+
 pub sound_taken : (n : ℕ) (made : Item) (s : State) → IsSound s → stands made s.place ≡ true → IsSound (taken n made s)
-sound_taken n (item.Size i h) s sound e = let out = start_is_out s.place e in subst (λ (b : Bool). IsSound (chosen b (item.Size i h) s)) (sym out) (single_sound (single.Size i h) s (after (item.Size i h) s.place) refl out sound)
-sound_taken n item.Open s sound e = let out = start_is_out s.place e in subst (λ (b : Bool). IsSound (chosen b item.Open s)) (sym out) (single_sound single.Open s (after item.Open s.place) refl out sound)
 sound_taken n (item.Client m) s sound e = record { nothing = λ h. absurd (cc); grouped = sound.grouped; follows = sound.follows }
 sound_taken n item.End s sound e = record { nothing = λ h. refl; grouped = sound.grouped; follows = sound.follows }
-sound_taken n item.Begin s sound e = let inside = between_is_in s.place e in subst (λ (b : Bool). IsSound (chosen b item.Begin s)) (sym inside) (step_sound s _ (after item.Begin s.place) refl sound)
-sound_taken n (item.Insert k v) s sound e = let inside = transaction_is_in s.place e in subst (λ (b : Bool). IsSound (chosen b (item.Insert k v) s)) (sym inside) (step_sound s _ (after (item.Insert k v) s.place) inside sound)
-sound_taken n (item.Update k v) s sound e = let inside = transaction_is_in s.place e in subst (λ (b : Bool). IsSound (chosen b (item.Update k v) s)) (sym inside) (step_sound s _ (after (item.Update k v) s.place) inside sound)
-sound_taken n (item.Delete k) s sound e = let inside = transaction_is_in s.place e in subst (λ (b : Bool). IsSound (chosen b (item.Delete k) s)) (sym inside) (step_sound s _ (after (item.Delete k) s.place) inside sound)
-sound_taken n (item.Get k) s sound e = let inside = transaction_is_in s.place e in subst (λ (b : Bool). IsSound (chosen b (item.Get k) s)) (sym inside) (step_sound s _ (after (item.Get k) s.place) inside sound)
-sound_taken n (item.Die m) s sound e = let inside = transaction_is_in s.place e in subst (λ (b : Bool). IsSound (chosen b (item.Die m) s)) (sym inside) (step_sound s _ (after (item.Die m) s.place) inside sound)
-sound_taken n item.Commit s sound e = let inside = transaction_is_in s.place e in subst (λ (b : Bool). IsSound (chosen b item.Commit s)) (sym inside) (step_sound s _ (after item.Commit s.place) refl sound)
-sound_taken n item.Abort s sound e = let inside = transaction_is_in s.place e in subst (λ (b : Bool). IsSound (chosen b item.Abort s)) (sym inside) (step_sound s _ (after item.Abort s.place) refl sound)
-sound_taken n (item.Poke r w m) s sound e = by_test (is_in_block s.place) refl
-  where
-    by_test : (b : Bool) → is_in_block s.place ≡ b → IsSound (taken n (item.Poke r w m) s)
-    by_test true t = subst (λ (b : Bool). IsSound (chosen b (item.Poke r w m) s)) (sym t) (step_sound s _ s.place t sound)
-    by_test false t = subst (λ (b : Bool). IsSound (chosen b (item.Poke r w m) s)) (sym t) (single_sound (single.Poke r w m) s s.place refl t sound)
-sound_taken n item.Audit s sound e = by_test (is_in_block s.place) refl
-  where
-    by_test : (b : Bool) → is_in_block s.place ≡ b → IsSound (taken n item.Audit s)
-    by_test true t = subst (λ (b : Bool). IsSound (chosen b item.Audit s)) (sym t) (step_sound s _ s.place t sound)
-    by_test false t = subst (λ (b : Bool). IsSound (chosen b item.Audit s)) (sym t) (single_sound single.Audit s s.place refl t sound)
-sound_taken n item.Checkpoint s sound e = by_test (is_in_block s.place) refl
-  where
-    by_test : (b : Bool) → is_in_block s.place ≡ b → IsSound (taken n item.Checkpoint s)
-    by_test true t = subst (λ (b : Bool). IsSound (chosen b item.Checkpoint s)) (sym t) (step_sound s _ s.place t sound)
-    by_test false t = subst (λ (b : Bool). IsSound (chosen b item.Checkpoint s)) (sym t) (single_sound single.Checkpoint s s.place refl t sound)
-sound_taken n item.Cleanup s sound e = let out = outside_is_out s.place e in subst (λ (b : Bool). IsSound (chosen b item.Cleanup s)) (sym out) (single_sound single.Cleanup s (after item.Cleanup s.place) refl out sound)
-sound_taken n (item.Crash m) s sound e = let out = outside_is_out s.place e in subst (λ (b : Bool). IsSound (chosen b (item.Crash m) s)) (sym out) (single_sound (single.Crash m) s (after (item.Crash m) s.place) refl out sound)
-sound_taken n item.Restart s sound e = let out = outside_is_out s.place e in subst (λ (b : Bool). IsSound (chosen b item.Restart s)) (sym out) (single_sound single.Restart s (after item.Restart s.place) refl out sound)
-sound_taken n item.Show s sound e = let out = outside_is_out s.place e in subst (λ (b : Bool). IsSound (chosen b item.Show s)) (sym out) (single_sound single.Show s (after item.Show s.place) refl out sound)
-sound_taken n item.Verify s sound e = let out = outside_is_out s.place e in subst (λ (b : Bool). IsSound (chosen b item.Verify s)) (sym out) (single_sound single.Verify s (after item.Verify s.place) refl out sound)
-sound_taken n item.Next s sound e = let out = outside_is_out s.place e in subst (λ (b : Bool). IsSound (chosen b item.Next s)) (sym out) (single_sound single.Next s (after item.Next s.place) refl out sound)
-sound_taken n (item.Fuse m) s sound e = let out = outside_is_out s.place e in subst (λ (b : Bool). IsSound (chosen b (item.Fuse m) s)) (sym out) (single_sound (single.Fuse m) s (after (item.Fuse m) s.place) refl out sound)
+sound_taken n made s sound e = plain_sound made s sound (as_read made s.place refl e)
 
 -- ---- no line leads back to the start
 pub never_at_start : (made : Item) (p : Place) → stands made p ≡ true → after made p ≡ place.Start → ⊥

@@ -1,79 +1,102 @@
 -- What one right line does to what was read so far: the place behind it, the lines so far, and the grouping of rounds.
-use Rattle.std.proofs.Common.{◌≡◌, ℕ, ◌<◌, Bool, true, false, cond, List, [], ◌∷◌, ◌++◌, length, map, Some, refl, ap, sym, ◌∙◌, append_assoc, arith}
+use Rattle.std.proofs.Common.{◌≡◌, ℕ, ◌<◌, Bool, true, false, cond, List, [], ◌∷◌, ◌++◌, length, map, Some, refl, ap, sym, ◌∙◌, append_assoc, arith, None, ◌⊎◌, inl, inr}
 use Rattle.std.specs.Prelude.{flat_map}
 use Rattle.std.proofs.lemmas.List.{map-append, append-nil}
 use Rattle.std.proofs.lemmas.Grind.{flat_map-append}
 use Rattle.std.proofs.lemmas.Bool.Decides.{nat_tests}
 use Rattle.dali_script.specs.Lines.{is_empty}
 use Rattle.dali_script.specs.Places.{is_start, is_in_block, is_outside, is_between, is_in_transaction, after}
-use Rattle.dali_script.specs.Grammar.{next, line_of_step, lines_of_block, lines_of_command, lines_of_script, IsGrouped}
+use Rattle.dali_script.specs.Grammar.{next, line_of_step, lines_of_block, lines_of_command, lines_of_script, IsGrouped, round_in}
 use Rattle.dali_script.specs.Reading.{State, context_of, taken, step_of, single_of, with_step, with_single, ended}
 use Rattle.dali_script.specs.declared.items.Item.{Item}
 use Rattle.dali_script.specs.declared.items.Item.TheVariants as item
 use Rattle.dali_script.specs.declared.places.Place.{Place}
 use Rattle.dali_script.specs.declared.places.Place.TheVariants as place
 use Rattle.dali_script.specs.declared.commands.ClientCommand.{ClientCommand}
-use Rattle.dali_script.specs.declared.commands.ClientCommand.TheVariants as step
 use Rattle.dali_script.specs.declared.commands.Block.{Block}
 use Rattle.dali_script.specs.declared.commands.Command.{Command}
 use Rattle.dali_script.specs.declared.commands.Command.TheVariants as single
 use Rattle.dali_script.proofs.Verdicts.{stands}
 
 -- ---- places
-pub start_is_out : (p : Place) → is_start p ≡ true → is_in_block p ≡ false
+start_is_out : (p : Place) → is_start p ≡ true → is_in_block p ≡ false
 start_is_out place.Start e = refl
 start_is_out place.Outside e = absurd (cc)
 start_is_out place.InBlock e = absurd (cc)
 start_is_out place.InTransaction e = absurd (cc)
 
-pub outside_is_out : (p : Place) → is_outside p ≡ true → is_in_block p ≡ false
+outside_is_out : (p : Place) → is_outside p ≡ true → is_in_block p ≡ false
 outside_is_out place.Start e = refl
 outside_is_out place.Outside e = refl
 outside_is_out place.InBlock e = absurd (cc)
 outside_is_out place.InTransaction e = absurd (cc)
 
-pub between_is_in : (p : Place) → is_between p ≡ true → is_in_block p ≡ true
+between_is_in : (p : Place) → is_between p ≡ true → is_in_block p ≡ true
 between_is_in place.Start e = absurd (cc)
 between_is_in place.Outside e = absurd (cc)
 between_is_in place.InBlock e = refl
 between_is_in place.InTransaction e = refl
 
-pub transaction_is_in : (p : Place) → is_in_transaction p ≡ true → is_in_block p ≡ true
+transaction_is_in : (p : Place) → is_in_transaction p ≡ true → is_in_block p ≡ true
 transaction_is_in place.Start e = absurd (cc)
 transaction_is_in place.Outside e = absurd (cc)
 transaction_is_in place.InBlock e = refl
 transaction_is_in place.InTransaction e = refl
 
+-- ---- a line that opens no block and closes none
+abbrev pub is_plain : Item → Bool
+is_plain (item.Client m) = false
+is_plain item.End = false
+is_plain _ = true
+
+-- in a block it is a command of the block, and outside of blocks a single one
+abbrev pub AsStep : Item → Place → Type 0
+AsStep made p = (k : ClientCommand) × (step_of made ≡ Some k) × (line_of_step k ≡ made) × (is_in_block p ≡ true) × (is_in_block (after made p) ≡ true)
+
+abbrev pub AsSingle : Item → Place → Type 0
+AsSingle made p = (c : Command) × (single_of made ≡ Some c) × (lines_of_command c ≡ made ∷ []) × (round_in c ≡ None) × (is_in_block p ≡ false) × (is_in_block (after made p) ≡ false)
+
+-- where it may stand in a block and outside of one
+as_either : (made : Item) (p : Place) (k : ClientCommand) (c : Command) → step_of made ≡ Some k → line_of_step k ≡ made → single_of made ≡ Some c → lines_of_command c ≡ made ∷ [] → round_in c ≡ None
+    → after made p ≡ p → AsStep made p ⊎ AsSingle made p
+as_either made p k c a b d e f stays = by_test (is_in_block p) refl
+  where
+    by_test : (t : Bool) → is_in_block p ≡ t → AsStep made p ⊎ AsSingle made p
+    by_test true t = inl (k, a, b, t, ap is_in_block stays ∙ t)
+    by_test false t = inr (c, d, e, f, t, ap is_in_block stays ∙ t)
+
+pub as_read : (made : Item) (p : Place) → is_plain made ≡ true → stands made p ≡ true → AsStep made p ⊎ AsSingle made p
+as_read (item.Client m) p plain e = absurd (cc)
+as_read item.End p plain e = absurd (cc)
+as_read (item.Size i h) p plain e = inr (_, refl, refl, refl, start_is_out p e, refl)
+as_read item.Open p plain e = inr (_, refl, refl, refl, start_is_out p e, refl)
+as_read item.Begin p plain e = inl (_, refl, refl, between_is_in p e, refl)
+as_read (item.Insert k v) p plain e = inl (_, refl, refl, transaction_is_in p e, transaction_is_in p e)
+as_read (item.Update k v) p plain e = inl (_, refl, refl, transaction_is_in p e, transaction_is_in p e)
+as_read (item.Delete k) p plain e = inl (_, refl, refl, transaction_is_in p e, transaction_is_in p e)
+as_read (item.Get k) p plain e = inl (_, refl, refl, transaction_is_in p e, transaction_is_in p e)
+as_read (item.Die m) p plain e = inl (_, refl, refl, transaction_is_in p e, transaction_is_in p e)
+as_read item.Commit p plain e = inl (_, refl, refl, transaction_is_in p e, refl)
+as_read item.Abort p plain e = inl (_, refl, refl, transaction_is_in p e, refl)
+as_read (item.Poke r w m) p plain e = as_either (item.Poke r w m) p _ _ refl refl refl refl refl refl
+as_read item.Audit p plain e = as_either item.Audit p _ _ refl refl refl refl refl refl
+as_read item.Checkpoint p plain e = as_either item.Checkpoint p _ _ refl refl refl refl refl refl
+as_read _ p plain e = inr (_, refl, refl, refl, outside_is_out p e, outside_is_out p e)
+
+-- what was read so far, behind such a line
+abbrev pub chosen : Bool → Item → State → State
+chosen b made s = record (cond b (with_step (step_of made) s) (with_single (single_of made) s)) { place = after made s.place }
+
 -- ---- the place behind a line
+plain_context : (made : Item) (s : State) → AsStep made s.place ⊎ AsSingle made s.place
+    → context_of (chosen (is_in_block s.place) made s) ≡ record { place = after made s.place; clients = cond (is_in_block s.place) s.clients []; opened = s.opened }
+plain_context made s (inl (k, is, line, inside, still)) = rw (inside, is) refl
+plain_context made s (inr (c, is, lines, alone, out, still)) = rw (out, is) refl
+
 pub context_taken : (n : ℕ) (made : Item) (s : State) → stands made s.place ≡ true → context_of (taken n made s) ≡ next n made (context_of s)
-context_taken n (item.Size i h) s e = rw (start_is_out s.place e) refl
-context_taken n item.Open s e = rw (start_is_out s.place e) refl
 context_taken n (item.Client m) s e = refl
 context_taken n item.End s e = rw e refl
-context_taken n item.Begin s e = rw (between_is_in s.place e) refl
-context_taken n (item.Poke r w m) s e = by_test (is_in_block s.place) refl
-  where
-    by_test : (b : Bool) → is_in_block s.place ≡ b → context_of (taken n (item.Poke r w m) s) ≡ next n (item.Poke r w m) (context_of s)
-    by_test true t = rw t refl
-    by_test false t = rw t refl
-context_taken n item.Audit s e = by_test (is_in_block s.place) refl
-  where
-    by_test : (b : Bool) → is_in_block s.place ≡ b → context_of (taken n item.Audit s) ≡ next n item.Audit (context_of s)
-    by_test true t = rw t refl
-    by_test false t = rw t refl
-context_taken n item.Checkpoint s e = by_test (is_in_block s.place) refl
-  where
-    by_test : (b : Bool) → is_in_block s.place ≡ b → context_of (taken n item.Checkpoint s) ≡ next n item.Checkpoint (context_of s)
-    by_test true t = rw t refl
-    by_test false t = rw t refl
-context_taken n item.Cleanup s e = rw (outside_is_out s.place e) refl
-context_taken n (item.Crash m) s e = rw (outside_is_out s.place e) refl
-context_taken n item.Restart s e = rw (outside_is_out s.place e) refl
-context_taken n item.Show s e = rw (outside_is_out s.place e) refl
-context_taken n item.Verify s e = rw (outside_is_out s.place e) refl
-context_taken n item.Next s e = rw (outside_is_out s.place e) refl
-context_taken n (item.Fuse m) s e = rw (outside_is_out s.place e) refl
-context_taken n _ s e = rw (transaction_is_in s.place e) refl
+context_taken n made s e = plain_context made s (as_read made s.place refl e)
 
 -- ---- the lines so far
 abbrev pub open_lines : Bool → ℕ → List ClientCommand → List Item
@@ -129,13 +152,17 @@ step_line k line s inside still is =
     regroup : (a b c d : List Item) → a ++ (b ++ (c ++ d)) ≡ (a ++ (b ++ c)) ++ d
     regroup a b c d = ap (λ ls. a ++ ls) (sym (append_assoc b c d)) ∙ sym (append_assoc a (b ++ c) d)
 
--- a line that opens or closes no block, in a block or not
-abbrev pub chosen : Bool → Item → State → State
-chosen b made s = record (cond b (with_step (step_of made) s) (with_single (single_of made) s)) { place = after made s.place }
+plain_lines : (made : Item) (s : State) → AsStep made s.place ⊎ AsSingle made s.place → lines_so_far (chosen (is_in_block s.place) made s) ≡ lines_so_far s ++ made ∷ []
+plain_lines made s (inl (k, is, line, inside, still)) =
+    ap (λ b. lines_so_far (chosen b made s)) inside
+    ∙ ap (λ o. lines_so_far (record (with_step o s) { place = after made s.place })) is
+    ∙ step_line k made s inside still line
+plain_lines made s (inr (c, is, lines, alone, out, still)) =
+    ap (λ b. lines_so_far (chosen b made s)) out
+    ∙ ap (λ o. lines_so_far (record (with_single o s) { place = after made s.place })) is
+    ∙ single_line c made s out still lines
 
 pub lines_taken : (n : ℕ) (made : Item) (s : State) → IsSound s → stands made s.place ≡ true → lines_so_far (taken n made s) ≡ lines_so_far s ++ made ∷ []
-lines_taken n (item.Size i h) s sound e = let out = start_is_out s.place e in ap (λ b. lines_so_far (chosen b (item.Size i h) s)) out ∙ single_line (single.Size i h) (item.Size i h) s out refl refl
-lines_taken n item.Open s sound e = let out = start_is_out s.place e in ap (λ b. lines_so_far (chosen b item.Open s)) out ∙ single_line single.Open item.Open s out refl refl
 lines_taken n (item.Client m) s sound e =
     let out = outside_is_out s.place e in
     let before = lines_of_script s.commands in
@@ -152,33 +179,4 @@ lines_taken n item.End s sound e =
     ap (λ ls. before ++ ls) (append-nil (flat_map lines_of_block (s.blocks ++ b ∷ [])) ∙ flat_map-append lines_of_block s.blocks (b ∷ []) ∙ ap (λ ls. round ++ ls) (append-nil (inner ++ item.End ∷ [])) ∙ sym (append_assoc round inner (item.End ∷ [])))
     ∙ sym (append_assoc before (round ++ inner) (item.End ∷ []))
     ∙ ap (λ t. (before ++ (round ++ open_lines t s.client s.steps)) ++ item.End ∷ []) (sym e)
-lines_taken n item.Begin s sound e = let inside = between_is_in s.place e in ap (λ b. lines_so_far (chosen b item.Begin s)) inside ∙ step_line step.Begin item.Begin s inside refl refl
-lines_taken n (item.Insert k v) s sound e = let inside = transaction_is_in s.place e in ap (λ b. lines_so_far (chosen b (item.Insert k v) s)) inside ∙ step_line (step.Insert k v) (item.Insert k v) s inside inside refl
-lines_taken n (item.Update k v) s sound e = let inside = transaction_is_in s.place e in ap (λ b. lines_so_far (chosen b (item.Update k v) s)) inside ∙ step_line (step.Update k v) (item.Update k v) s inside inside refl
-lines_taken n (item.Delete k) s sound e = let inside = transaction_is_in s.place e in ap (λ b. lines_so_far (chosen b (item.Delete k) s)) inside ∙ step_line (step.Delete k) (item.Delete k) s inside inside refl
-lines_taken n (item.Get k) s sound e = let inside = transaction_is_in s.place e in ap (λ b. lines_so_far (chosen b (item.Get k) s)) inside ∙ step_line (step.Get k) (item.Get k) s inside inside refl
-lines_taken n (item.Die m) s sound e = let inside = transaction_is_in s.place e in ap (λ b. lines_so_far (chosen b (item.Die m) s)) inside ∙ step_line (step.Die m) (item.Die m) s inside inside refl
-lines_taken n item.Commit s sound e = let inside = transaction_is_in s.place e in ap (λ b. lines_so_far (chosen b item.Commit s)) inside ∙ step_line step.Commit item.Commit s inside refl refl
-lines_taken n item.Abort s sound e = let inside = transaction_is_in s.place e in ap (λ b. lines_so_far (chosen b item.Abort s)) inside ∙ step_line step.Abort item.Abort s inside refl refl
-lines_taken n (item.Poke r w m) s sound e = by_test (is_in_block s.place) refl
-  where
-    by_test : (b : Bool) → is_in_block s.place ≡ b → lines_so_far (taken n (item.Poke r w m) s) ≡ lines_so_far s ++ item.Poke r w m ∷ []
-    by_test true t = ap (λ b. lines_so_far (chosen b (item.Poke r w m) s)) t ∙ step_line (step.Poke r w m) (item.Poke r w m) s t t refl
-    by_test false t = ap (λ b. lines_so_far (chosen b (item.Poke r w m) s)) t ∙ single_line (single.Poke r w m) (item.Poke r w m) s t t refl
-lines_taken n item.Audit s sound e = by_test (is_in_block s.place) refl
-  where
-    by_test : (b : Bool) → is_in_block s.place ≡ b → lines_so_far (taken n item.Audit s) ≡ lines_so_far s ++ item.Audit ∷ []
-    by_test true t = ap (λ b. lines_so_far (chosen b item.Audit s)) t ∙ step_line step.Audit item.Audit s t t refl
-    by_test false t = ap (λ b. lines_so_far (chosen b item.Audit s)) t ∙ single_line single.Audit item.Audit s t t refl
-lines_taken n item.Checkpoint s sound e = by_test (is_in_block s.place) refl
-  where
-    by_test : (b : Bool) → is_in_block s.place ≡ b → lines_so_far (taken n item.Checkpoint s) ≡ lines_so_far s ++ item.Checkpoint ∷ []
-    by_test true t = ap (λ b. lines_so_far (chosen b item.Checkpoint s)) t ∙ step_line step.Checkpoint item.Checkpoint s t t refl
-    by_test false t = ap (λ b. lines_so_far (chosen b item.Checkpoint s)) t ∙ single_line single.Checkpoint item.Checkpoint s t t refl
-lines_taken n item.Cleanup s sound e = let out = outside_is_out s.place e in ap (λ b. lines_so_far (chosen b item.Cleanup s)) out ∙ single_line single.Cleanup item.Cleanup s out out refl
-lines_taken n (item.Crash m) s sound e = let out = outside_is_out s.place e in ap (λ b. lines_so_far (chosen b (item.Crash m) s)) out ∙ single_line (single.Crash m) (item.Crash m) s out out refl
-lines_taken n item.Restart s sound e = let out = outside_is_out s.place e in ap (λ b. lines_so_far (chosen b item.Restart s)) out ∙ single_line single.Restart item.Restart s out out refl
-lines_taken n item.Show s sound e = let out = outside_is_out s.place e in ap (λ b. lines_so_far (chosen b item.Show s)) out ∙ single_line single.Show item.Show s out out refl
-lines_taken n item.Verify s sound e = let out = outside_is_out s.place e in ap (λ b. lines_so_far (chosen b item.Verify s)) out ∙ single_line single.Verify item.Verify s out out refl
-lines_taken n item.Next s sound e = let out = outside_is_out s.place e in ap (λ b. lines_so_far (chosen b item.Next s)) out ∙ single_line single.Next item.Next s out out refl
-lines_taken n (item.Fuse m) s sound e = let out = outside_is_out s.place e in ap (λ b. lines_so_far (chosen b (item.Fuse m) s)) out ∙ single_line (single.Fuse m) (item.Fuse m) s out out refl
+lines_taken n made s sound e = plain_lines made s (as_read made s.place refl e)

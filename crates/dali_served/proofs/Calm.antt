@@ -21,6 +21,7 @@ use Rattle.dali_transcripts.specs.Transcripts.{IsPath, said_by, own_by}
 use Rattle.dali_served.specs.Served.{acts_of}
 use Rattle.dali_served.specs.Steady.{is_answered, NoneClaimed}
 use Rattle.dali_served.specs.Free.{fits_log}
+use Rattle.dali_served.proofs.Walked.{HasAnswered, answered}
 
 pub record IsCalm (w : World) : Type 0 where
   pub looks : w.precheck ≡ false
@@ -109,15 +110,6 @@ module _ (w : World) (c : ℕ) (calm : IsCalm w) where
     to_is : to x ≡ at (Within txn 0 (BeginAct ∷ rest) None false) rest
     tells : list_all is_answered (said x) ≡ true
 
-  record HasAnswered (x : Move) (txn : ℕ) (commands : List Act) (call : Call) (rest : List Act) : Type 0 where
-    work : List Receipt
-    number : ℕ
-    answer : Answer
-    own_is : own x ≡ work ++ (number, Logs (Done txn call answer)) ∷ []
-    are_own : AllByRecursion (OwnDeed txn) work
-    to_is : to x ≡ at (Within txn 0 commands None false) rest
-    tells : list_all is_answered (said x) ≡ true
-
   record HasCommitted (x : Move) (txn : ℕ) (rest : List Act) : Type 0 where
     number : ℕ
     end : List Receipt
@@ -136,21 +128,9 @@ module _ (w : World) (c : ℕ) (calm : IsCalm w) where
   gave_way : (t : ℕ) (call : Call) (f : Refusal) (i : ℕ) → slice_get w.happened i ≡ Some (Yields f, c) → ⊥
   gave_way t call f i at = calm.waits i c f at
 
-  answers : (u : ℕ) (ks : List Act) (k : Call) (r : List Act) (x : Move) → HasCause w c x → Within u 0 ks None false ≡ (from x).place → Calls k ∷ r ≡ (from x).rest → Spares x → HasAnswered x u ks k r
+  answers : (u : ℕ) (ks : List Act) (k : Call) (r : List Act) (x : Move) → HasCause w c x → Within u 0 ks None false ≡ (from x).place → Calls k ∷ r ≡ (from x).rest → Spares x → HasAnswered w c (λ a. list_all is_answered (said x) ≡ true) x u ks k r
   answers u ks k r (Answers t tries cs None work n call a rest) cause p e fine =
-      let txn : t ≡ u = cc in
-      let asked : call ≡ k = cc in
-      let place : Within t tries cs None false ≡ Within u 0 ks None false = sym p in
-      let left : rest ≡ r = cc in
-      record {
-        work = work;
-        number = n;
-        answer = a;
-        own_is = ap (λ z. work ++ (n, Logs (Done z call a)) ∷ []) txn ∙ ap (λ z. work ++ (n, Logs (Done u z a)) ∷ []) asked;
-        are_own = subst (λ z. AllByRecursion (OwnDeed z) work) txn (own_work t call work cause.0);
-        to_is = ap (λ z. at z rest) place ∙ ap (λ l. at (Within u 0 ks None false) l) left;
-        tells = refl;
-      }
+      answered w c (λ z. list_all is_answered (said (Answers t tries cs None work n call a rest)) ≡ true) t u tries n cs ks call k a work rest r cause.0 p e refl
   answers u ks k r (Answers t tries cs (Some d) work n call a rest) cause p e fine = absurd cc
   answers u ks k r (IsRefusedCall t tries cs d s work n back call why rest) cause p e fine = absurd (no_cause (Calls call) (Some t) why n (λ h. h) (λ i h. h) cause.1.0 fine)
   answers u ks k r (GivesWay t tries cs d work call f back end rest) cause p e fine = absurd (gave_way t call f cause.1.done.place cause.1.done.there)
@@ -224,7 +204,7 @@ module _ (w : World) (c : ℕ) (calm : IsCalm w) where
       record {
         asked = one.work ++ (done ∷ more.asked);
         later = more.later;
-        are = (one.work, more.asked, one.number, one.answer, one.are_own, more.are, refl);
+        are = (one.work, more.asked, one.number, one.answer, own_work t k one.work one.are_work, more.are, refl);
         path = more.path;
         fine = more.fine;
         own_is =
@@ -232,7 +212,7 @@ module _ (w : World) (c : ℕ) (calm : IsCalm w) where
             ∙ (ap (λ l. l ++ own_by xs) one.own_is
             ∙ (ap (λ l. (one.work ++ done ∷ []) ++ l) more.own_is
             ∙ (append_assoc one.work (done ∷ []) (more.asked ++ own_by more.later) ∙ sym (append_assoc one.work (done ∷ more.asked) (own_by more.later)))));
-        tells = λ e. tells_of x xs one.tells (more.tells e);
+        tells = λ e. tells_of x xs one.is_so (more.tells e);
       }
 
   -- its commit

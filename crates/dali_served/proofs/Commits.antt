@@ -1,6 +1,6 @@
 -- A legal log has at most one commit of each transaction.
 use Rattle.std.proofs.Common.{◌≡◌, ℕ, ◌==◌, Bool, true, false, List, [], ◌∷◌, Option, Some, None, fold, refl, sym, ◌∙◌, ap, subst, inl, inr, ⊎_elim}
-use Rattle.std.specs.Prelude.{◌⊎◌, Contains, IsSome, not, ◌&&◌, if◌then◌else◌}
+use Rattle.std.specs.Prelude.{◌⊎◌, Contains, IsSome, not, if◌then◌else◌}
 use Rattle.std.specs.List.{cons_option}
 use Rattle.std.proofs.lemmas.Bool.{eq-eqb}
 use Rattle.dali_lists.proofs.Members.{contains_cases, contains_none}
@@ -11,6 +11,7 @@ use Rattle.dali_record.specs.declared.records.Record.{Record}
 use Rattle.dali_record.specs.declared.records.Record.TheVariants.{Begin, Forward, Done, Commit, Ended, Solo, Back}
 use Rattle.dali_record.specs.Legal.{TxnState, Unbegun, Active, Committed, Over, txn_step, txn_next, allowed, dead_of, freed, freeing_op, is_of, is_level, is_none_left, IsLegalFor}
 use Rattle.dali_record.specs.Log.{commit_by, committed}
+use Rattle.dali_record.proofs.Moves.{over_next_is}
 use Rattle.dali_record.proofs.Survivors.{commit_is}
 use Rattle.dali_served.specs.Served.{Once}
 
@@ -47,14 +48,7 @@ past_stays s t (Committed ps) (Ended u) h = either_past (u == t) (allowed (is_no
 past_stays s t (Committed ps) (Solo u p b) h =
     allowed_past (not (u == t)) (if p == t then freed b ps else Some (Committed ps)) (either_past (p == t) (freed b ps) (Some (Committed ps)) (freed_past b ps) tt)
 past_stays s t (Committed ps) r h = tt
-past_stays s t Over (Begin u) h = allowed_past (not (u == t)) (Some Over) tt
-past_stays s t Over (Forward u b) h = allowed_past (not (u == t)) (Some Over) tt
-past_stays s t Over (Back u b) h = allowed_past (not (u == t)) (Some Over) tt
-past_stays s t Over (Done u c a) h = allowed_past (not (u == t)) (Some Over) tt
-past_stays s t Over (Commit u) h = allowed_past (not (u == t)) (Some Over) tt
-past_stays s t Over (Ended u) h = allowed_past (not (u == t)) (Some Over) tt
-past_stays s t Over (Solo u p b) h = allowed_past (not (u == t) && not (p == t)) (Some Over) tt
-past_stays s t Over r h = tt
+past_stays s t Over r h = let next = over_next_is t r in subst StaysPast (sym next.1) (allowed_past next.0 (Some Over) tt)
 
 not_again : (s : Sizes) (t : ℕ) (x : TxnState) → IsPast x → txn_step s t x (Commit t) ≡ None
 not_again s t Unbegun h = absurd h

@@ -142,7 +142,7 @@ module _ (w : World) (c : ℕ) where
       record {
         dones = done ∷ more.dones;
         later = more.later;
-        are = (one.number, one.answer, more.dones, one.room, more.are, refl);
+        are = (one.number, one.answer, more.dones, one.is_so, more.are, refl);
         path = more.path;
         served = more.served;
         marked = s.marked ∙ (ap (λ l. l ++ marks (own_by xs)) here ∙ ap (λ l. done ∷ l) more.marked);

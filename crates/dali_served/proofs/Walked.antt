@@ -21,14 +21,14 @@ pub record HasBegun (x : Move) (rest : List Act) : Type 0 where
   pub own_is : own x ≡ (number, Logs (Begin txn)) ∷ []
   pub to_is : to x ≡ at (Within txn 0 (BeginAct ∷ rest) None false) rest
 
--- a call is answered
-pub record HasAnswered (w : World) (c : ℕ) (x : Move) (txn : ℕ) (commands : List Act) (call : Call) (rest : List Act) : Type 0 where
+-- a call is answered, and the answer is such
+pub record HasAnswered (w : World) (c : ℕ) (IsSo : Answer → Type 0) (x : Move) (txn : ℕ) (commands : List Act) (call : Call) (rest : List Act) : Type 0 where
   pub work : List Receipt
   pub number : ℕ
   pub answer : Answer
   pub own_is : own x ≡ work ++ (number, Logs (Done txn call answer)) ∷ []
   pub are_work : AreWork w c txn call work
-  pub room : has_room answer ≡ true
+  pub is_so : IsSo answer
   pub to_is : to x ≡ at (Within txn 0 commands None false) rest
 
 -- the transaction is committed
@@ -52,8 +52,9 @@ module _ (w : World) (c : ℕ) where
       record { txn = t; number = n; own_is = refl; to_is = ap (λ l. at (Within t 0 (BeginAct ∷ l) None false) l) same }
   begins r x cause p e served = absurd cc
 
-  pub answers : (u : ℕ) (ks : List Act) (k : Call) (r : List Act) (x : Move) → HasCause w c x → Within u 0 ks None false ≡ (from x).place → Calls k ∷ r ≡ (from x).rest → Serves x → HasAnswered w c x u ks k r
-  answers u ks k r (Answers t tries cs None work n call a rest) cause p e served =
+  pub answered : (IsSo : Answer → Type 0) (t u tries n : ℕ) (cs ks : List Act) (call k : Call) (a : Answer) (work : List Receipt) (rest r : List Act)
+      → AreWork w c t call work → Within u 0 ks None false ≡ Within t tries cs None false → Calls k ∷ r ≡ Calls call ∷ rest → IsSo a → HasAnswered w c IsSo (Answers t tries cs None work n call a rest) u ks k r
+  answered IsSo t u tries n cs ks call k a work rest r are p e so =
       let txn : t ≡ u = cc in
       let asked : call ≡ k = cc in
       let place : Within t tries cs None false ≡ Within u 0 ks None false = sym p in
@@ -63,10 +64,13 @@ module _ (w : World) (c : ℕ) where
         number = n;
         answer = a;
         own_is = ap (λ z. work ++ (n, Logs (Done z call a)) ∷ []) txn ∙ ap (λ z. work ++ (n, Logs (Done u z a)) ∷ []) asked;
-        are_work = subst (λ z. AreWork w c u z work) asked (subst (λ z. AreWork w c z call work) txn cause.0);
-        room = room_of call a served;
+        are_work = subst (λ z. AreWork w c u z work) asked (subst (λ z. AreWork w c z call work) txn are);
+        is_so = so;
         to_is = ap (λ z. at z rest) place ∙ ap (λ l. at (Within u 0 ks None false) l) left;
       }
+
+  pub answers : (u : ℕ) (ks : List Act) (k : Call) (r : List Act) (x : Move) → HasCause w c x → Within u 0 ks None false ≡ (from x).place → Calls k ∷ r ≡ (from x).rest → Serves x → HasAnswered w c (λ a. has_room a ≡ true) x u ks k r
+  answers u ks k r (Answers t tries cs None work n call a rest) cause p e served = answered (λ z. has_room z ≡ true) t u tries n cs ks call k a work rest r cause.0 p e (room_of call a served)
   answers u ks k r (Answers t tries cs (Some d) work n call a rest) cause p e served = absurd cc
   answers u ks k r (GivesWay t tries cs d work call f back (TakenBack n) rest) cause p e served = absurd cc
   answers u ks k r (GivesWay t tries cs d work call f back (LeftBehind n z) rest) cause p e served = absurd cc

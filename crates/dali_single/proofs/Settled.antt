@@ -224,9 +224,9 @@ settle_ends rs rs' y y1 z t us goes runs is L v work =
       mid = core rs' y1 v;
       steps = one.steps;
       leads = one.leads;
-      own = one.own;
+      records = one.own;
       logged = one.logged;
-      solos = one.solos;
+      are = one.solos;
       ends = subst (λ (x : SystemState). IsStep one.log (core rs' y1 v) (Ends t) (one.log ++ Ended t ∷ []) (core rs' x v)) (sym is) last;
     }
 

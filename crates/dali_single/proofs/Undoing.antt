@@ -188,9 +188,9 @@ abort_ends rs rs' y y1 z t u none runs is L v work =
       mid = core rs' y1 v;
       steps = led.steps;
       leads = led.leads;
-      own = led.own;
+      records = led.own;
       logged = led.logged;
-      backs = led.backs;
+      are = led.backs;
       ends = subst (λ (x : SystemState). IsStep led.log (core rs' y1 v) (Ends t) (led.log ++ Ended t ∷ []) (core rs' x v)) (sym is) last;
     }
 

@@ -14,11 +14,12 @@ use Rattle.dali_region.specs.Answers.{latch_answer}
 use Rattle.dali_core.specs.declared.error.SystemError.{SystemError}
 use Rattle.dali_core.specs.declared.error.SystemError.TheVariants.{OutOfMemory as Memory}
 use Rattle.dali_core.specs.Served.{Served}
-use Rattle.dali_core.specs.UnderWay.{IsUnderWay}
+use Rattle.dali_core.specs.UnderWay.{IsUnderWay, OneIsUnderWay}
+use Rattle.dali_core.proofs.UnderWays.{IsSameWay}
 use Rattle.dali_calls.specs.Steps.{call_key, IsBlockOf}
 use Rattle.dali_calls.specs.Plans.{Planned, plan_next, is_back, went_back, with_operation, commit_refusal, GoesOn}
 use Rattle.dali_calls.specs.Operating.{IsHeldBy, AreWritten, Goes}
-use Rattle.dali_calls.proofs.Operating.{goes_on, IsWay, IsSameWay, opened_by, held_open}
+use Rattle.dali_calls.proofs.Operating.{goes_on, opened_by, held_open}
 use Rattle.dali_record.specs.Blocks.{IsSoundOn}
 use Rattle.dali_record.specs.Spelling.{record_length}
 use Rattle.dali_single.specs.declared.error.StepError.TheVariants.{System}
@@ -73,7 +74,7 @@ written p p1 p2 g g1 g2 free made sound one opened same two w = by_both p1.opera
           is_open = o;
         }
 
-pub way_of : (p : Planned) (g : RegionState) (o : Option Operation) (g1 : RegionState) → IsMade p g o g1 → IsWay o g1
+pub way_of : (p : Planned) (g : RegionState) (o : Option Operation) (g1 : RegionState) → IsMade p g o g1 → OneIsUnderWay o g1
 way_of p g None g1 m = absurd m
 way_of p g (Some o) g1 m = m.2
 

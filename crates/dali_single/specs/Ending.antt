@@ -1,7 +1,8 @@
 -- A transaction is taken back, by a thread that has the core alone.
 --     IsBackOf t x             the record x takes an operation of t back
 --     IsAtWork L c t           it has no region latched, and its row has the undos that the log leaves it
---     IsEnded L c t d          it was taken back: behind its undos comes its end, and nothing else was logged
+--     HasEnded own L c t d     records of one kind were logged, behind them comes its end, and nothing else was logged
+--     IsEnded L c t d          it was taken back: so it has ended behind its undos
 --     IsStillAtWork L c t d    some of its undos were performed, and the others are left
 --     UndoesFrom rs y t rs' z  undos of t were performed, the last ones, and steps of a core led to these regions and this system
 use Rattle.std.specs.Prelude.{◌≡◌, false, ℕ, List, [], ◌∷◌, ◌++◌, Some, length}
@@ -31,16 +32,19 @@ pub record IsAtWork (L : List Record) (c : CoreState) (t : ℕ) : Type 0 where
   pub undos : undos_at c.system.table t ≡ working.undos
   pub free : IsFree c t
 
-pub record IsEnded (L : List Record) (c : CoreState) (t : ℕ) (d : CoreState) : Type 0 where
+pub record HasEnded (own : Record → Type 0) (L : List Record) (c : CoreState) (t : ℕ) (d : CoreState) : Type 0 where
   pub log : List Record
   pub mid : CoreState
   pub steps : List Step
   pub leads : Leads false t L c steps log mid
-  -- what the undos logged
-  pub own : List Record
-  pub logged : log ≡ L ++ own
-  pub backs : AllByRecursion (IsBackOf t) own
+  -- what was logged before the end
+  pub records : List Record
+  pub logged : log ≡ L ++ records
+  pub are : AllByRecursion own records
   pub ends : IsStep log mid (Ends t) (log ++ Ended t ∷ []) d
+
+abbrev pub IsEnded : List Record → CoreState → ℕ → CoreState → Type 0
+IsEnded L c t d = HasEnded (IsBackOf t) L c t d
 
 pub record IsStillAtWork (L : List Record) (c : CoreState) (t : ℕ) (d : CoreState) : Type 0 where
   pub log : List Record

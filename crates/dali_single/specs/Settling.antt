@@ -1,10 +1,11 @@
 -- What a committed transaction removed is freed for good, by a thread that has the core alone.
 --     MayFree y t u            the undo u is a removal's, what frees it is on a region of its kind, and t has its key alone
+--     MaySettle rs y t us      t is committed, and these of its removals may be freed on these regions
 --     MayCommit L c t          t may call, and no number from the next one on was given
 --     Commits L c t us d       one step logs its commit, and these removals are left to be freed
 --     IsSoloOf t x             the record x frees something for t
 --     IsCommitted L c t us     the log has t committed with these removals left; it has no region latched, and no number from the next one on was given
---     IsSettled L c t d        they were freed, and behind that comes its end, and nothing else was logged
+--     IsSettled L c t d        they were freed: so it has ended behind its solos
 --     IsLeft L c t left d      some were freed, and these others are left
 --     left_behind y z us       of the removals us those that are left, when the system y came to z: as many were freed as it gave numbers
 --     settle_room n            for how many bytes memory is to be promised, that n removals are freed and the end logged without more
@@ -17,7 +18,7 @@ use Rattle.dali_geometry.specs.Places.{regions}
 use Rattle.dali_record.specs.declared.operations.Block.{Block}
 use Rattle.dali_record.specs.declared.operations.Pending.{Pending}
 use Rattle.dali_record.specs.declared.records.Record.{Record}
-use Rattle.dali_record.specs.declared.records.Record.TheVariants.{Commit, Ended, Solo}
+use Rattle.dali_record.specs.declared.records.Record.TheVariants.{Commit, Solo}
 use Rattle.dali_record.specs.Blocks.{made}
 use Rattle.dali_record.specs.Legal.{is_removal, freeing_op, on_kind}
 use Rattle.dali_record.specs.Spelling.{IsUndo, IsBlock}
@@ -29,7 +30,7 @@ use Rattle.dali_system.specs.Run.{covers}
 use Rattle.dali_system.specs.Steps.{solo_logged}
 use Rattle.dali_system.specs.Keeps.{IsFree}
 use Rattle.dali_system.specs.Regions.{RegionStep, IsOpen}
-use Rattle.dali_system.specs.Courses.{Step, Commits as CommitsStep, Ends, IsStep}
+use Rattle.dali_system.specs.Courses.{Step, Commits as CommitsStep, IsStep}
 use Rattle.dali_core.specs.Promised.{promised_to}
 use Rattle.dali_core.specs.Served.{Served, solo_room}
 use Rattle.dali_facts.specs.Ends.{IsUnbegun, IsEnding}
@@ -37,12 +38,18 @@ use Rattle.dali_calls.specs.Operating.{Goes}
 use Rattle.dali_calls.specs.Others.{HoldsClear}
 use Rattle.dali_single.specs.Stands.{core}
 use Rattle.dali_single.specs.Single.{Leads, OthersStay, MayCall}
+use Rattle.dali_single.specs.Ending.{HasEnded}
 
 pub record MayFree (y : SystemState) (t : ℕ) (u : Pending) : Type 0 where
   pub removal : is_removal u.undo ≡ true
   pub spelled : IsUndo u.undo
   pub kind : on_kind y.sizes u.region (freeing_op u.undo) ≡ true
   pub lock : covers (lock_of y t u.key) true ≡ true
+
+pub record MaySettle (rs : List RegionState) (y : SystemState) (t : ℕ) (us : List Pending) : Type 0 where
+  pub whole : length rs ≡ regions y.sizes
+  pub may : AllByRecursion (MayFree y t) us
+  pub committed : state_of y t ≡ Some Committed
 
 abbrev pub IsSoloOf : ℕ → Record → Type 0
 IsSoloOf t (Solo n p b) = p ≡ t
@@ -62,16 +69,8 @@ pub record Commits (L : List Record) (c : CoreState) (t : ℕ) (us : List Pendin
   pub step : IsStep L c (CommitsStep t) (L ++ Commit t ∷ []) d
   pub is : IsCommitted (L ++ Commit t ∷ []) d t us
 
-pub record IsSettled (L : List Record) (c : CoreState) (t : ℕ) (d : CoreState) : Type 0 where
-  pub log : List Record
-  pub mid : CoreState
-  pub steps : List Step
-  pub leads : Leads false t L c steps log mid
-  -- what the solos logged
-  pub own : List Record
-  pub logged : log ≡ L ++ own
-  pub solos : AllByRecursion (IsSoloOf t) own
-  pub ends : IsStep log mid (Ends t) (log ++ Ended t ∷ []) d
+abbrev pub IsSettled : List Record → CoreState → ℕ → CoreState → Type 0
+IsSettled L c t d = HasEnded (IsSoloOf t) L c t d
 
 pub record IsLeft (L : List Record) (c : CoreState) (t : ℕ) (left : List Pending) (d : CoreState) : Type 0 where
   pub log : List Record

@@ -22,7 +22,7 @@ ghost use Rattle.dali_single.specs.Stands.{core};
 ghost use Rattle.dali_single.specs.Operated.{IsLeftOf};
 ghost use Rattle.dali_single.specs.Refusals.{IsUnfreed, IsStuck, IsLatched};
 ghost use Rattle.dali_single.specs.Single.{AreCovered, OthersStay};
-ghost use Rattle.dali_single.specs.Settling.{MayFree, Freed, MayCommit, Commits, IsCommitted, AreFreed, IsSettled, IsLeft, left_behind, settle_room, IsPromised};
+ghost use Rattle.dali_single.specs.Settling.{MayFree, MaySettle, Freed, MayCommit, Commits, IsCommitted, AreFreed, IsSettled, IsLeft, left_behind, settle_room, IsPromised};
 
 use crate::error::StepError;
 use dali_core::{Operation, System, SystemError};
@@ -97,9 +97,7 @@ fn free_all(
     txn: u64,
     removals: &[Pending],
 ) -> Result<(), StepError>
-    requires whole { length regions.old ≡ regions_of system.old.state.sizes }
-    requires may { AllByRecursion (MayFree system.old.state txn) removals.now }
-    requires committed { state_of system.old.state txn ≡ Some Committed }
+    requires { MaySettle regions.old system.old.state txn removals.now }
     ensures ok { OnOk result (AreFreed regions.old system.old.state txn removals.now [] regions.new system.new.state) }
     ensures freed { OnOk result (system.new.state.next ≡ system.old.state.next + length removals.now) }
     ensures err { OnErr result (AreFreed regions.old system.old.state txn removals.now (left_behind system.old.state system.new.state removals.now) regions.new system.new.state) }

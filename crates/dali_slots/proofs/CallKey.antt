@@ -13,20 +13,13 @@ use Rattle.dali_record.specs.declared.operations.Block.{Block}
 use Rattle.dali_record.specs.declared.records.Call.TheVariants.{Insert, Update, Delete, Get}
 use Rattle.dali_record.specs.declared.records.Answer.TheVariants.{Ok as AnswerOk, Got, FullHeap, FullIndex, Odd}
 use Rattle.dali_record.specs.Calls.{Progress, Fresh, Walking, Nowhere, Somewhere, Storing, Adding, Removing, Finished, follow, look_next, after_look, put_next, after_put, store_next, add_next, after_add, cell_next, after_read, after_change, after_kill_cell, entry_next, after_kill_entry, on_item}
-use Rattle.dali_history.specs.Serial.{call_key}
 use Rattle.dali_slots.proofs.SlotSteps.{IsForward}
 use Rattle.dali_slots.proofs.CallProgress.{IsOn, when_some, on_item_is}
 use Rattle.dali_index.proofs.Gaps.{place_heap}
 
 abbrev pub IsOff : ℕ → Progress → Type 0
 IsOff k Fresh = ⊤
-IsOff k (Walking key region looked) = key ≢ k
-IsOff k (Nowhere key) = key ≢ k
-IsOff k (Somewhere key region entry at) = key ≢ k
-IsOff k (Storing key w region tried) = key ≢ k
-IsOff k (Adding key w at region tried) = key ≢ k
-IsOff k (Removing key region entry at) = key ≢ k
-IsOff k (Finished c a) = call_key c ≢ k
+IsOff k p = IsOn k p → ⊥
 
 -- a call on j is off k, or on it
 pub off_other : (j k : ℕ) (p : Progress) → IsOn j p → j ≢ k → IsOff k p

@@ -18,10 +18,9 @@ use Rattle.dali_system.specs.Regions.{RegionStep, Latch, NoteReads, Update, Take
 use Rattle.dali_core.specs.declared.error.SystemError.{SystemError}
 use Rattle.dali_core.specs.declared.error.SystemError.TheVariants.{OutOfMemory as Memory}
 use Rattle.dali_core.specs.Served.{Served}
-use Rattle.dali_core.proofs.UnderWays.{latched_unheld}
+use Rattle.dali_core.proofs.UnderWays.{latched_unheld, IsSameWay}
 use Rattle.dali_calls.specs.Plans.{Planned, is_back, went_back, with_operation, commit_refusal, GoesOn}
 use Rattle.dali_calls.specs.Operating.{Goes, AreWritten}
-use Rattle.dali_calls.proofs.Operating.{IsSameWay}
 use Rattle.dali_single.specs.declared.error.StepError.TheVariants.{System}
 use Rattle.dali_single.specs.Refusals.{IsRefusedOn}
 use Rattle.dali_single.proofs.Writing.{IsMade as IsLatchedFor, Written, written, as_before, refused_so, promised_still}

@@ -256,18 +256,8 @@ own_in t u x (Some g) apart own = own_on t u x g apart own
 
 pub own_apart : OwnStepIsApart
 own_apart precheck t u c (Operates v b) apart own = apart_from t u v own.0 apart
-own_apart precheck t u c (TakesBack v b) apart own = apart_from t u v own apart
-own_apart precheck t u c (Frees v b) apart own = apart_from t u v own apart
-own_apart precheck t u c (Answers v call a) apart own = apart_from t u v own apart
-own_apart precheck t u c (Commits v) apart own = apart_from t u v own apart
-own_apart precheck t u c (Ends v) apart own = apart_from t u v own apart
-own_apart precheck t u c (Locks v k m) apart own = apart_from t u v own apart
-own_apart precheck t u c (Refuses v k m h) apart own = absurd own
 own_apart precheck t u c (OnRegion r x) apart own = own_in t u x (slice_get c.regions r) apart own
-own_apart precheck t u c (Dies v o) apart own = absurd own
-own_apart precheck t u c (Claims v) apart own = absurd own
-own_apart precheck t u c (GivesBack v o) apart own = absurd own
-own_apart precheck t u c _ apart own = refl
+own_apart precheck t u c _ apart own = grind (arith, apart, own)
 
 pub led_leaves : LedLeavesBe
 led_leaves precheck t u L M c d [] apart less l = nothing t L M c d l.0 l.1

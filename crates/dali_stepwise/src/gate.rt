@@ -13,3 +13,11 @@ pub struct OpenGate;
 impl Gate for OpenGate {
     fn pass(&self, _client: u32, _point: u32) {}
 }
+
+/// A point of a client, and the gate that it passes there.
+#[derive(Drop)]
+pub struct GatePoint<'a, G: Gate> {
+    pub gate: &'a G,
+    pub client: u32,
+    pub number: u32,
+}

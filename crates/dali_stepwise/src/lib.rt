@@ -9,7 +9,7 @@ mod operation;
 mod request;
 
 pub use ending::answer;
-pub use gate::{Gate, OpenGate};
+pub use gate::{Gate, GatePoint, OpenGate};
 pub use operation::{die, operate};
 pub use request::ask;
 

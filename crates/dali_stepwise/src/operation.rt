@@ -11,7 +11,7 @@ ghost use Rattle.dali_single.specs.Stands.{IsAtRest};
 ghost use Rattle.dali_stepwise.specs.Opened.{Opens, IsMade, DiesOn};
 ghost use Rattle.dali_stepwise.specs.Stepwise.{OneFurther, IsDeath};
 
-use crate::gate::Gate;
+use crate::gate::{Gate, GatePoint};
 use dali_calls::{Plan, write_all};
 use dali_core::{System, Want};
 use dali_region::{LatchError, Region};
@@ -42,9 +42,7 @@ fn make<G: Gate>(
     region: &mut Region,
     system: &mut System,
     precheck: bool,
-    gate: &G,
-    client: u32,
-    point: u32,
+    point: &GatePoint<'_, G>,
 ) -> Result<(), StepError>
     requires wants { IsSome (plan_next plan.old) }
     requires closed { plan.old.operation ≡ None }
@@ -58,7 +56,7 @@ fn make<G: Gate>(
         Ok(()) => {}
         Err(cause) => return Err(StepError::Latch { cause }),
     }
-    gate.pass(client, point);
+    point.gate.pass(point.client, point.number);
     match plan.commit(region, system) {
         Ok(_) => Ok(()),
         Err(cause) => Err(StepError::System { cause }),
@@ -70,9 +68,7 @@ fn die_on<G: Gate>(
     plan: &mut Plan,
     region: &mut Region,
     precheck: bool,
-    gate: &G,
-    client: u32,
-    point: u32,
+    point: &GatePoint<'_, G>,
 ) -> Result<u64, LatchError>
     requires wants { IsSome (plan_next plan.old) }
     requires closed { plan.old.operation ≡ None }
@@ -85,7 +81,7 @@ fn die_on<G: Gate>(
         Ok(()) => {}
         Err(cause) => return Err(cause),
     }
-    gate.pass(client, point);
+    point.gate.pass(point.client, point.number);
     let Some(hold) = region.hold() else {
         unreachable!()
     };
@@ -102,9 +98,7 @@ pub fn operate<G: Gate>(
     regions: &mut [Region],
     system: &mut System,
     precheck: bool,
-    gate: &G,
-    client: u32,
-    point: u32,
+    point: &GatePoint<'_, G>,
 ) -> Result<(), StepError>
     requires rest { IsAtRest regions.old system.old.state plan.old }
     requires wants { IsSome (plan_next plan.old) }
@@ -118,7 +112,7 @@ pub fn operate<G: Gate>(
         unreachable!()
     };
     let region = &mut regions[region as usize];
-    make(plan, region, system, precheck, gate, client, point)
+    make(plan, region, system, precheck, point)
 }
 
 /// The client of a plan dies in its next operation, behind its last update and the gate: its words stay written, the
@@ -130,9 +124,7 @@ pub fn die<G: Gate>(
     regions: &mut [Region],
     system: &mut System,
     precheck: bool,
-    gate: &G,
-    client: u32,
-    point: u32,
+    point: &GatePoint<'_, G>,
 ) -> Result<(), LatchError>
     requires rest { IsAtRest regions.old system.old.state plan.old }
     requires wants { IsSome (plan_next plan.old) }
@@ -147,7 +139,7 @@ pub fn die<G: Gate>(
         unreachable!()
     };
     let region = &mut regions[number as usize];
-    match die_on(plan, region, precheck, gate, client, point) {
+    match die_on(plan, region, precheck, point) {
         Ok(txn) => {
             system.mark_dead(txn, Some(number));
             Ok(())

@@ -2,7 +2,7 @@
 ghost use Rattle.std.specs.Prelude.{◌≡◌, ◌≤◌, None};
 ghost use Rattle.dali_stepwise.specs.Tested.{IsIdle};
 
-use crate::{Gate, answer, ask, die, operate};
+use crate::{Gate, GatePoint, answer, ask, die, operate};
 use anyhow::{Context, Result};
 use dali_att::State;
 use dali_calls::Plan;
@@ -27,6 +27,15 @@ impl<'a> Gate for Passes<'a> {
     fn pass(&self, client: u32, point: u32) {
         let (_, _, passes) = self.last.get();
         self.last.set((client, point, passes.wrapping_add(1)));
+    }
+}
+
+// A client and the number of its point, at this gate.
+fn point_at<'a, 'b>(gate: &'a Passes<'b>, point: (u32, u32)) -> GatePoint<'a, Passes<'b>> {
+    GatePoint {
+        gate,
+        client: point.0,
+        number: point.1,
     }
 }
 
@@ -73,7 +82,7 @@ fn step(
     };
     match plan.wants() {
         Want::Region { .. } => {
-            match operate(plan, regions, system, precheck, gate, point.0, point.1) {
+            match operate(plan, regions, system, precheck, &point_at(gate, point)) {
                 Ok(()) => Stepped::Made,
                 Err(cause) => Stepped::Refused { cause },
             }
@@ -105,7 +114,7 @@ fn dies(
         return None;
     };
     match plan.wants() {
-        Want::Region { .. } => Some(die(plan, regions, system, true, gate, point.0, point.1)),
+        Want::Region { .. } => Some(die(plan, regions, system, true, &point_at(gate, point))),
         _ => None,
     }
 }

@@ -8,6 +8,22 @@ use crate::{Failed, Sink, Source};
 use std::alloc::Global;
 use std::marker::Model;
 
+// Counts a call, which fails where its number is among these.
+fn count_call(calls: &mut u64, faults: &mut u64, failing: &[u64]) -> Result<(), Failed>
+    ensures fails { IsErr result ↔ Contains failing.now calls.old }
+    ensures calls { calls.new ≡ one_more calls.old }
+    ensures failed { OnErr result (faults.new ≡ one_more faults.old) }
+    ensures cause { HasCause faults.old faults.new result }
+{
+    let call = *calls;
+    *calls = call.saturating_add(1);
+    if failing.contains(&call) {
+        *faults = faults.saturating_add(1);
+        return Err(Failed);
+    }
+    Ok(())
+}
+
 /// Bytes in memory, read in pieces; chosen calls fail.
 #[derive(Drop)]
 pub struct MemorySource {
@@ -65,12 +81,7 @@ impl Source for MemorySource {
         ensures err { OnErr result (Some self.new.left ≡ Some self.old.left) }
         ensures cause { HasCause self.old.faults self.new.faults result }
     {
-        let call = self.calls;
-        self.calls = call.saturating_add(1);
-        if self.failing.contains(&call) {
-            self.faults = self.faults.saturating_add(1);
-            return Err(Failed);
-        }
+        count_call(&mut self.calls, &mut self.faults, &self.failing)?;
         let from = &self.bytes[self.at..];
         let count = into.len().min(self.piece.min(from.len()));
         into[..count].copy_from_slice(&from[..count]);
@@ -151,12 +162,7 @@ impl Sink for MemorySink {
         ensures err { OnErr result (Some self.new.taken ≡ Some self.old.taken) }
         ensures cause { HasCause self.old.faults self.new.faults result }
     {
-        let call = self.calls;
-        self.calls = call.saturating_add(1);
-        if self.failing.contains(&call) {
-            self.faults = self.faults.saturating_add(1);
-            return Err(Failed);
-        }
+        count_call(&mut self.calls, &mut self.faults, &self.failing)?;
         let count = bytes.len().min(self.piece);
         match self.taken.extend_from_slice(&bytes[..count]) {
             Ok(()) => Ok(count),

@@ -1,9 +1,24 @@
 //! The standard streams, or any reader and writer of the system: the trusted edge.
-ghost use Rattle.std.specs.Prelude.{◌≡◌, ◌≤◌, ◌<◌, Ok, length, IfOk, OnOk, OnErr};
+ghost use Rattle.std.specs.Prelude.{◌≡◌, ◌≤◌, ◌<◌, Ok, length, IfOk, OnErr};
 ghost use Rattle.dali_store.specs.Faults.{HasCause, one_more};
 
 use crate::{Failed, Sink, Source};
 use std::io::{self, ErrorKind, Read, Write};
+
+// Counts a read or a write that failed.
+fn counted(faults: &mut u64, outcome: io::Result<usize>) -> Result<usize, Failed>
+    ensures value { IfOk result (λ n. outcome ≡ Ok n) }
+    ensures failed { OnErr result (faults.new ≡ one_more faults.old) }
+    ensures cause { HasCause faults.old faults.new result }
+{
+    match outcome {
+        Ok(count) => Ok(count),
+        Err(_) => {
+            *faults = faults.saturating_add(1);
+            Err(Failed)
+        }
+    }
+}
 
 /// Reads from a reader, such as standard input, and counts its failures. It tells nothing of what it reads.
 #[derive(Drop)]
@@ -33,22 +48,6 @@ impl<R: Read + Drop> StdSource<R> {
     {
         StdSource { reader, faults: 0 }
     }
-
-    // Counts a read that failed.
-    fn counted(&mut self, outcome: io::Result<usize>) -> Result<usize, Failed>
-        ensures value { IfOk result (λ n. outcome ≡ Ok n) }
-        ensures passed { OnOk result (self.new ≡ self.old) }
-        ensures failed { OnErr result (self.new ≡ record self.old { faults = one_more self.old.faults }) }
-        ensures cause { HasCause self.old.faults self.new.faults result }
-    {
-        match outcome {
-            Ok(count) => Ok(count),
-            Err(_) => {
-                self.faults = self.faults.saturating_add(1);
-                Err(Failed)
-            }
-        }
-    }
 }
 
 impl<R: Read + Drop> Source for StdSource<R> {
@@ -61,7 +60,7 @@ impl<R: Read + Drop> Source for StdSource<R> {
     /// One read of the reader, which is made again where it is interrupted. Each other error is a fault.
     fn read(&mut self, into: &mut [u8]) -> Result<usize, Failed> {
         let outcome = read_some(&mut self.reader, into);
-        self.counted(outcome)
+        counted(&mut self.faults, outcome)
     }
 }
 
@@ -95,22 +94,6 @@ impl<W: Write + Drop> StdSink<W> {
     {
         StdSink { writer, faults: 0 }
     }
-
-    // Counts a write that failed.
-    fn counted(&mut self, outcome: io::Result<usize>) -> Result<usize, Failed>
-        ensures value { IfOk result (λ n. outcome ≡ Ok n) }
-        ensures passed { OnOk result (self.new ≡ self.old) }
-        ensures failed { OnErr result (self.new ≡ record self.old { faults = one_more self.old.faults }) }
-        ensures cause { HasCause self.old.faults self.new.faults result }
-    {
-        match outcome {
-            Ok(count) => Ok(count),
-            Err(_) => {
-                self.faults = self.faults.saturating_add(1);
-                Err(Failed)
-            }
-        }
-    }
 }
 
 impl<W: Write + Drop> Sink for StdSink<W> {
@@ -124,6 +107,6 @@ impl<W: Write + Drop> Sink for StdSink<W> {
     /// write that takes nothing of bytes that aren't empty.
     fn write(&mut self, bytes: &[u8]) -> Result<usize, Failed> {
         let outcome = write_some(&mut self.writer, bytes);
-        self.counted(outcome)
+        counted(&mut self.faults, outcome)
     }
 }

@@ -2,6 +2,7 @@
 use Rattle.std.proofs.Common.{◌≡◌, ℕ, true, false, List, [], ◌∷◌, ◌++◌, length, refl, ap, sym, subst, ◌∙◌, arith, append_assoc, ◌⊎◌, inl, inr, ◌+◌, ◌≤◌}
 use Rattle.std.specs.Prelude.{◌==◌, not, slice_get, Some}
 use Rattle.std.proofs.lemmas.List.{length-append, append-nil}
+use Rattle.dali_lists.proofs.Lists.{EachFrom}
 use Rattle.dali_record.specs.declared.records.Record.{Record}
 use Rattle.dali_record.specs.declared.records.Record.TheVariants.{Begin, Forward, Done, Commit, Ended, Solo, AuditBegin, Back}
 use Rattle.dali_record.specs.Files.{Files}
@@ -24,7 +25,7 @@ use Rattle.dali_system.proofs.RecordSteps.{begin_keeps, op_keeps, back_keeps, so
 use Rattle.dali_system.proofs.AuditSteps.{audit_begin_keeps, audit_end_keeps}
 use Rattle.dali_system.proofs.QuietSteps.{grant_keeps, refuse_keeps, region_keeps, state_keeps, stop_keeps, checkpoint_flag_keeps}
 use Rattle.dali_system.proofs.Deaths.{death_keeps, recover_keeps}
-use Rattle.dali_system.proofs.Passes.{AreLater, later_all, later_one, check_later, after_later, death_later, touch_later, audits_later, audits_begin, audits_pass, no_audits_run, pass_at}
+use Rattle.dali_system.proofs.Passes.{later_all, later_one, check_later, after_later, death_later, touch_later, audits_later, audits_begin, audits_pass, no_audits_run, pass_at, IsLater}
 use Rattle.dali_system.proofs.AuditEnds.{pass_of, found_is, none_found, may_end_audit}
 use Rattle.dali_system.proofs.Loads.{load_runs}
 use Rattle.dali_system.proofs.Flushes.{take_keeps, flush_keeps, fault_keeps, read_keeps, flush_leaves, fault_leaves, read_leaves, longer_flushed, length-frame}
@@ -262,13 +263,13 @@ step_goes m n _ s = goes_on m n _ refl s.0.1
 pub runs_on : (bases : Bases) (before : List Record) (old : Files → Type 0) (m : Moment) → RunsAt bases before old m → RunsOn bases m.log m.core
 runs_on bases before old m at = subst (λ M. RunsOn bases M m.core) (sym at.log) at.run.runs
 
-later_by : (m n : Moment) (e : CoreState) → n.core ≡ e → AreLater m.core.regions e.regions → AreLater m.core.regions n.core.regions
-later_by m n e is later = subst (λ (d : CoreState). AreLater m.core.regions d.regions) (sym is) later
+later_by : (m n : Moment) (e : CoreState) → n.core ≡ e → EachFrom IsLater m.core.regions e.regions → EachFrom IsLater m.core.regions n.core.regions
+later_by m n e is later = subst (λ (d : CoreState). EachFrom IsLater m.core.regions d.regions) (sym is) later
 
-later_same : (m n : Moment) (e : CoreState) → n.core ≡ e → e.regions ≡ m.core.regions → AreLater m.core.regions n.core.regions
-later_same m n e is same = later_by m n e is (subst (AreLater m.core.regions) (sym same) (later_all m.core.regions))
+later_same : (m n : Moment) (e : CoreState) → n.core ≡ e → e.regions ≡ m.core.regions → EachFrom IsLater m.core.regions n.core.regions
+later_same m n e is same = later_by m n e is (subst (EachFrom IsLater m.core.regions) (sym same) (later_all m.core.regions))
 
-regions_later : (bases : Bases) (before : List Record) (old : Files → Type 0) (m n : Moment) (x : Step) → RunsAt bases before old m → IsStepAt m x n → AreLater m.core.regions n.core.regions
+regions_later : (bases : Bases) (before : List Record) (old : Files → Type 0) (m n : Moment) (x : Step) → RunsAt bases before old m → IsStepAt m x n → EachFrom IsLater m.core.regions n.core.regions
 regions_later bases before old m n (Operates t b) at s = later_by m n _ s.0.3.1 (later_one m.core.regions b.region s.0.0 (touched s.0.0) s.0.2.at (touch_later bases m.log m.core b.region s.0.0 (runs_on bases before old m at) s.0.2.at))
 regions_later bases before old m n (TakesBack t b) at s = later_by m n _ s.0.2.1 (later_one m.core.regions b.region s.0.0 (touched s.0.0) s.0.1.at (touch_later bases m.log m.core b.region s.0.0 (runs_on bases before old m at) s.0.1.at))
 regions_later bases before old m n (Frees p b) at s = later_by m n _ s.0.2.1 (later_one m.core.regions b.region s.0.0 (touched s.0.0) s.0.1.at (touch_later bases m.log m.core b.region s.0.0 (runs_on bases before old m at) s.0.1.at))

@@ -19,11 +19,11 @@ use Rattle.dali_index.specs.Entries.{entries}
 use Rattle.dali_region.specs.State.{RegionState, loaded, poked, touched, checked}
 use Rattle.dali_locks.specs.declared.mode.Mode.{Mode}
 use Rattle.dali_locks.specs.declared.mode.Mode.TheVariants.{Shared, Exclusive}
-use Rattle.dali_locks.specs.Locks.{stronger_mode}
+use Rattle.dali_locks.specs.Locks.{stronger_mode, Locks, locks_with}
 use Rattle.dali_locks.proofs.Changes.{get-locks_with}
 use Rattle.dali_att.specs.declared.state.State.TheVariants.{Live}
 use Rattle.dali_att.specs.Table.{fresh_row}
-use Rattle.dali_system.specs.State.{TxnRow, state_of, lock_of}
+use Rattle.dali_system.specs.State.{TxnRow, state_of}
 use Rattle.dali_system.specs.Run.{log_in, covers, blocks_on}
 use Rattle.dali_system.specs.Steps.{begun, commit_logged, granted, op_logged, done_logged, taken, audit_begun, audit_ended}
 use Rattle.dali_system.specs.Keeps.{with_system}
@@ -132,13 +132,14 @@ is_damaged_look : IsBlock damaged_look
 unfolding damaged_look
 is_damaged_look = made_is_block Look 5 0 damaged_words tt (omega arith) (omega arith) are_damaged
 
-pub shared : (o : Option Mode) → covers (Some (stronger_mode o Shared)) false ≡ true
+shared : (o : Option Mode) → covers (Some (stronger_mode o Shared)) false ≡ true
 shared None = refl
 shared (Some Shared) = refl
 shared (Some Exclusive) = refl
 
-has_lock : covers (lock_of locked.core.system 2 5) false ≡ true
-has_lock = ap (λ (o : Option Mode). covers o false) (get-locks_with begun_2.core.system.locks 2 5 Shared 2 5) ∙ shared (get begun_2.core.system.locks (2, 5))
+-- the lock that 2 was granted on key 5 covers what only reads
+pub shared_covers : (y : Locks) → covers (get (locks_with y 2 5 Shared) (2, 5)) false ≡ true
+shared_covers y = ap (λ (o : Option Mode). covers o false) (get-locks_with y 2 5 Shared 2 5) ∙ shared (get y (2, 5))
 
 live_locked : state_of locked.core.system 2 ≡ Some Live
 live_locked = begun_state poked_0.core.system 2
@@ -158,7 +159,7 @@ looks = (
       next = refl;
       by = logs_by _ Live (Forward 2 damaged_look) live_locked refl;
       kind = refl;
-      locked = has_lock;
+      locked = shared_covers begun_2.core.system.locks;
       at = refl;
       is_open = record { hold = refl; reads = refl; sound = λ h. absurd (cc); stands = λ h. absurd (cc) };
     },

@@ -16,7 +16,7 @@ use Rattle.dali_region.specs.declared.Side.{Side}
 use Rattle.dali_region.specs.declared.Side.TheVariants.{A, B}
 use Rattle.dali_region.specs.State.{RegionState, touched, wrote, dead}
 use Rattle.dali_region.specs.Answers.{is_dirty, cleaned}
-use Rattle.dali_region.proofs.Olds.{write_nothing}
+use Rattle.dali_words.proofs.Writes.{write_nothing}
 use Rattle.dali_system.specs.State.{SystemState, CoreState}
 use Rattle.dali_att.specs.declared.state.State.TheVariants.{Dead}
 use Rattle.dali_system.specs.Run.{Bases, log_in, only}

@@ -4,7 +4,7 @@ use Rattle.std.specs.Prelude.{◌==◌, ◌||◌, slice_get, slice_set, min}
 use Rattle.std.specs.Option.{option_map_or}
 use Rattle.std.proofs.lemmas.Bool.{or_parts, eqb-true}
 use Rattle.std.proofs.lemmas.List.{length_push}
-use Rattle.dali_lists.proofs.Lists.{set_cases}
+use Rattle.dali_lists.proofs.Lists.{set_cases, EachFrom, each_same, each_set}
 use Rattle.dali_lists.proofs.Numbers.{eqb-self}
 use Rattle.dali_lists.proofs.Options.{some_same}
 use Rattle.dali_record.specs.declared.records.Record.{Record}
@@ -31,20 +31,14 @@ pub record IsLater (old new : RegionState) : Type 0 where
   pub missed : new.missed ≡ false → old.missed ≡ false
   pub poked : old.poked ≡ true → new.poked ≡ true
 
-abbrev pub AreLater : List RegionState → List RegionState → Type 0
-AreLater gs hs = (r : ℕ) (h : RegionState) → slice_get hs r ≡ Some h → (g : RegionState) × (slice_get gs r ≡ Some g) × IsLater g h
-
 as_it_was : (g : RegionState) → IsLater g g
 as_it_was g = record { sound = omega arith; missed = λ e. e; poked = λ e. e }
 
-pub later_all : (gs : List RegionState) → AreLater gs gs
-later_all gs r h e = (h, e, as_it_was h)
+pub later_all : (gs : List RegionState) → EachFrom IsLater gs gs
+later_all gs = each_same IsLater gs as_it_was
 
-pub later_one : (gs : List RegionState) (r : ℕ) (g h : RegionState) → slice_get gs r ≡ Some g → IsLater g h → AreLater gs (slice_set gs r h)
-later_one gs r g h at later q k e = ⊎_elim
-    (λ here. (g, subst (λ z. slice_get gs z ≡ Some g) (sym here.0) at, subst (IsLater g) (sym here.1) later))
-    (λ there. (k, there.1, as_it_was k))
-    (set_cases gs r h q k e)
+pub later_one : (gs : List RegionState) (r : ℕ) (g h : RegionState) → slice_get gs r ≡ Some g → IsLater g h → EachFrom IsLater gs (slice_set gs r h)
+later_one gs r g h at later = each_set IsLater gs r g h as_it_was at later
 
 pub check_later : (g : RegionState) → IsLater g (checked g)
 check_later g = record { sound = omega arith; missed = λ e. (or_parts g.missed _ e).0; poked = λ e. e }
@@ -60,11 +54,11 @@ after_later Die g = record { sound = omega arith; missed = λ e. e; poked = λ e
 after_later (Clean A) g = record { sound = omega arith; missed = λ e. e; poked = λ e. e }
 after_later (Clean B) g = record { sound = omega arith; missed = λ e. e; poked = λ e. e }
 
-pub death_later : (gs : List RegionState) (o : Option ℕ) → AreLater gs (dead_in gs o)
+pub death_later : (gs : List RegionState) (o : Option ℕ) → EachFrom IsLater gs (dead_in gs o)
 death_later gs None = later_all gs
 death_later gs (Some r) = at_death (slice_get gs r) refl
   where
-    at_death : (o : Option RegionState) → slice_get gs r ≡ o → AreLater gs (option_map_or (λ (g : RegionState). slice_set gs r (dead g)) o gs)
+    at_death : (o : Option RegionState) → slice_get gs r ≡ o → EachFrom IsLater gs (option_map_or (λ (g : RegionState). slice_set gs r (dead g)) o gs)
     at_death None e = later_all gs
     at_death (Some g) e = later_one gs r g (dead g) e (record { sound = omega arith; missed = λ e. e; poked = λ e. e })
 
@@ -104,7 +98,7 @@ number_later : (L M : List Record) → Longer L M → next_number (last_epoch L)
 number_later L M (inl same) = omega (arith, ap (λ (K : List Record). next_number (last_epoch K)) same)
 number_later L M (inr more) = let e : last_epoch M ≡ one_more (last_epoch L) more.0 = ap last_epoch more.2 ∙ last_epoch-push L more.0 more.1 in omega (arith, ap next_number e, length_push (last_epoch L).records more.0)
 
-pub audits_later : (L M : List Record) (c d : CoreState) (audits : Audits) → Longer L M → AreLater c.regions d.regions → AuditsRun L c audits → AuditsRun M d audits
+pub audits_later : (L M : List Record) (c d : CoreState) (audits : Audits) → Longer L M → EachFrom IsLater c.regions d.regions → AuditsRun L c audits → AuditsRun M d audits
 audits_later L M c d audits longer later run = record {
   within = λ b i p e. omega (arith, run.within b i p e, number_later L M longer);
   tells = λ b i p h e at. let old = later p.region h at in tells_later L M b p old.0 h longer (run.within b i p e) old.2 (run.tells b i p old.0 e old.1);
@@ -162,7 +156,7 @@ audits_pass bases L c d audits b r g run old at is may = record {
     here = run.regions r g at
 
     later : AuditsRun L d audits
-    later = audits_later L L c d audits (inl refl) (subst (AreLater c.regions) (sym is) (later_one c.regions r g (checked g) at (check_later g))) old
+    later = audits_later L L c d audits (inl refl) (subst (EachFrom IsLater c.regions) (sym is) (later_one c.regions r g (checked g) at (check_later g))) old
 
     within : (a i : ℕ) (p : Pass) (mine : Bool) → (a == b) ≡ mine → slice_get (cond mine (audits b ++ new ∷ []) (audits a)) i ≡ Some p → a ≤ next_number (last_epoch L)
     within a i p true m e = omega (arith, eqb-true a b m, may.auditing.within)

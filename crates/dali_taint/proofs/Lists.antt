@@ -11,6 +11,7 @@ use Rattle.dali_att.specs.Table.{Table, state_at, fresh_row, with_row, with_undo
 use Rattle.dali_record.specs.declared.operations.Block.{Block}
 use Rattle.dali_record.specs.declared.operations.Undo.{Undo}
 use Rattle.dali_record.specs.declared.operations.Pending.{Pending}
+use Rattle.dali_record.specs.Blocks.{pending}
 use Rattle.dali_record.specs.Log.{drop_last, undo_added}
 use Rattle.dali_system.specs.State.{TxnRow}
 use Rattle.dali_system.proofs.Tables.{Puts, with_undos, added, changed, ended, dropped}
@@ -92,10 +93,11 @@ added_undo m t p some u = put_undos m (with_row m t (with_undo p)) t _ (changed 
     by_row (Some row) h = refl
 
 -- behind a table that has the same lists
-pub longer : (m n : Table Pending) (t : ℕ) (b : Block) (undo : Undo) → SameUndos m n → IsSome (get n t) → b.undo ≡ Some undo → AddsUndo m (with_row n t (with_undo (record { key = b.key; region = b.region; undo = undo }))) t b
-longer m n t b undo same some is u =
-    added_undo n t (record { key = b.key; region = b.region; undo = undo }) some u
-    ∙ ap (λ us. cond (t == u) (us ++ record { key = b.key; region = b.region; undo = undo } ∷ []) us) (same u)
+pub longer : (m n : Table Pending) (t : ℕ) (b : Block) (undo : Undo) (p : Pending) → SameUndos m n → IsSome (get n t) → b.undo ≡ Some undo → p ≡ pending b undo → AddsUndo m (with_row n t (with_undo p)) t b
+longer m n t b undo p same some is made u =
+    added_undo n t p some u
+    ∙ ap (λ us. cond (t == u) (us ++ p ∷ []) us) (same u)
+    ∙ ap (λ x. cond (t == u) (undos_at m u ++ x ∷ []) (undos_at m u)) made
     ∙ ap (λ o. cond (t == u) (undos_at m u ++ undo_added b o) (undos_at m u)) (sym is)
 
 pub no_longer : (m : Table Pending) (t : ℕ) (b : Block) → b.undo ≡ None → AddsUndo m m t b

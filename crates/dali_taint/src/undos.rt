@@ -33,14 +33,7 @@ pub fn add(table: &mut Att<Pending>, txn: u64, block: &Block) -> Result<(), Allo
     match block.undo {
         Some(undo) => {
             enter(table, txn)?;
-            table.push(
-                txn,
-                Pending {
-                    key: block.key,
-                    region: block.region,
-                    undo,
-                },
-            )?;
+            table.push(txn, block.pending(undo))?;
             Ok(())
         }
         None => Ok(()),

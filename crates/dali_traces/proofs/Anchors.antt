@@ -1,14 +1,16 @@
 -- What a crash leaves in each step while the anchor is moved.
 use Rattle.std.proofs.Common.{◌≡◌, ◌⊎◌, inl, inr, ⊎_elim, ℕ, ◌+◌, ◌<◌, ◌≤◌, List, [], ◌∷◌, ◌++◌, length, get_or, take, drop, refl, sym, ◌∙◌, ap, subst, arith, append_assoc, length-append, Option, Some, None, IfSome}
+use Rattle.std.specs.Prelude.{is_some}
 use Rattle.std.proofs.lemmas.Bool.{cases_eq, cases_lt}
 use Rattle.std.proofs.lemmas.List.{get_or-take, get_or-drop, get_or_at, length-take-le, take-append-le, take-take, drop_at}
 use Rattle.dali_store.specs.Store.{Files, Holds, HoldsIn, Torn, TornIn, TornTold, Follows, Elapses, LeavesOnly}
 use Rattle.dali_store.specs.declared.store.FileName.TheVariants.{Anchor}
-use Rattle.dali_store.proofs.Moments.{started, goes_on}
+use Rattle.dali_store.proofs.Moments.{moved, started, goes_on}
 use Rattle.dali_batch.specs.Batch.{IsOpenAt, IsClosedAt}
+use Rattle.dali_batch.specs.Formatting.{IsFormattedBy}
 use Rattle.dali_batch.proofs.Bytes.{take_below, closed_same}
 use Rattle.dali_traces.specs.Disks.{IsAnchor}
-use Rattle.dali_traces.specs.Anchors.{HasMoved, MayHaveMoved}
+use Rattle.dali_traces.specs.Anchors.{HasMoved, MayHaveMoved, AreAnchored}
 
 -- ---- bytes
 open_same : (at : ℕ) (old new : List ℕ) → length old ≤ length new → take (at + 1) new ≡ take (at + 1) old → IsOpenAt at old → IsOpenAt at new
@@ -197,3 +199,8 @@ told_gates n t0 t1 t2 t3 t4 now one same two same2 =
     by_told (Some fs) None t3 now holds holds2 = absurd holds
     by_told (Some fs) (Some gs) None now holds holds2 = absurd holds2
     by_told (Some fs) (Some gs) (Some hs) now holds holds2 = (two_gates n fs.anchor gs.anchor hs.anchor (omega (arith, now)) holds.0 holds2.0, λ g other. holds2.1 g other ∙ holds.1 g other)
+
+-- the anchor behind a format, of a store that tells its contents
+pub anchor_formatted : (old new : Files → Type 0) (body : List ℕ) (t0 t1 : Option Files) → is_some t1 ≡ is_some t0 → IfSome t0 (λ _. (c : Files) → new c → IsFormattedBy old body c) → IfSome t1 (λ _. AreAnchored new 0)
+anchor_formatted old new body t0 t1 tells all =
+    moved {P = (c : Files) → new c → IsFormattedBy old body c} (AreAnchored new 0) t0 t1 tells all (λ each c left. record { gates = λ i lt. absurd (omega (arith, lt)); closed = (each c left).anchor })

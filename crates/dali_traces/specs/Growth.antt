@@ -14,7 +14,7 @@ use Rattle.dali_record.specs.Files.{Files}
 use Rattle.dali_system.specs.Run.{HasRisen}
 use Rattle.dali_system.specs.Flushes.{faulted}
 use Rattle.dali_system.specs.Courses.{Flushes, Faults}
-use Rattle.dali_crash.specs.Checkpoints.{StoreStep, Does, Copies, WritesHead, Syncs, Turns, CopyFails, HeadFails, SyncFails, TurnFails, Came, Inside, IsPointStep, Point, Traced}
+use Rattle.dali_crash.specs.Checkpoints.{StoreStep, Does, Starts, Keeps, Copies, Skips, WritesHead, Syncs, Turns, Finishes, CopyFails, HeadFails, SyncFails, TurnFails, Came, Inside, IsPointStep, Point, Traced}
 use Rattle.dali_crash.specs.Traces.{Start, StartsAt, start_point}
 
 -- ---- the anchor
@@ -56,15 +56,13 @@ fault_of _ ws n = None
 abbrev pub calls_store : StoreStep → Bool
 calls_store (Does Flushes) = true
 calls_store (Does (Faults k)) = true
-calls_store (Copies r m) = true
-calls_store (CopyFails r us k) = true
-calls_store (WritesHead h) = true
-calls_store (HeadFails h k) = true
-calls_store Syncs = true
-calls_store (SyncFails k) = true
-calls_store Turns = true
-calls_store (TurnFails k) = true
-calls_store _ = false
+calls_store (Does x) = false
+calls_store Starts = false
+calls_store Keeps = false
+calls_store (Skips r m) = false
+calls_store Finishes = false
+-- a checkpoint's other steps: a copy, the head, a sync, the anchor's move, and the fault in one of these
+calls_store _ = true
 
 pub record MayFail (p : Point) (x : StoreStep) (ws : List ℕ) (n : ℕ) : Type 0 where
   pub step : StoreStep

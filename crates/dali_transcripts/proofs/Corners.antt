@@ -1,37 +1,32 @@
 -- The second worked round.
-use Rattle.std.proofs.Common.{◌≡◌, ◌≢◌, ℕ, zero, suc, ◌<◌, true, false, List, [], ◌∷◌, Some, None, refl, ap, sym, subst, ◌∙◌, arith}
-use Rattle.std.specs.Prelude.{◌==◌, fold, length, slice_get, take, Contains, ◌↔◌}
-use Rattle.std.proofs.lemmas.Bool.{ne_eqb}
+use Rattle.std.proofs.Common.{◌≡◌, ◌≢◌, ℕ, zero, suc, ◌<◌, true, false, [], ◌∷◌, Some, None, refl, ap, sym, subst, ◌∙◌, arith}
+use Rattle.std.specs.Prelude.{fold, length, slice_get, take, Contains, ◌↔◌}
 use Rattle.dali_counts.proofs.Lists.{some_same}
 use Rattle.dali_record.specs.declared.records.Call.TheVariants.{Get}
 use Rattle.dali_record.specs.declared.records.Record.TheVariants.{Begin, Commit, AuditFail}
-use Rattle.dali_region.specs.State.{RegionState, IsLive, loaded, poked}
+use Rattle.dali_region.specs.State.{RegionState, loaded, poked}
 use Rattle.dali_system.specs.declared.causes.Cause.TheVariants.{Damage}
 use Rattle.dali_transcripts.specs.Words.{Begins as BeginAct, Calls, Commits as CommitAct, Aborts as AbortAct, Audits as AuditAct, Checkpoints as CheckpointAct, StoppedBy, Full}
 use Rattle.dali_transcripts.specs.World.{Logs, log_of, log_at, state_step, lock_step, stray_after}
-use Rattle.dali_transcripts.specs.Moves.{Outside, LeftOut, Move, Begins, IsRefusedBegin, Skips, Aborts, Pokes, Audits, IsRefusedCheckpoint, at}
+use Rattle.dali_transcripts.specs.Moves.{Outside, LeftOut, Begins, IsRefusedBegin, Skips, Aborts, Pokes, Audits, IsRefusedCheckpoint, at}
 use Rattle.dali_transcripts.specs.Causes.{IsFull}
 use Rattle.dali_transcripts.specs.Transcripts.{IsSoFar, deeds_of, AreTranscripts}
 use Rattle.dali_transcripts.specs.Rounds.{PokesTell, VerdictsTell, IsAtRest, IsBetween}
 use Rattle.dali_transcripts.specs.Worked.{index_words, heap_words}
 use Rattle.dali_transcripts.specs.Corners.{happened, told_1, told_2, blocks, lines_1, lines_2, world, CornersRun}
 use Rattle.dali_transcripts.proofs.Verdicts.{begin_is, ends_at, found_is}
-use Rattle.dali_transcripts.proofs.Ends.{grew_from, no_row, none_claimed, none_failed, neither_live, strays_same, whole_round, ended_together}
-
-moves_1 : List Move
-moves_1 =
-    Pokes false 2 1 9 1 (AuditAct ∷ BeginAct ∷ Calls (Get 5) ∷ CommitAct ∷ CheckpointAct ∷ [])
-    ∷ Audits 3 4 (1 ∷ []) None (BeginAct ∷ Calls (Get 5) ∷ CommitAct ∷ CheckpointAct ∷ [])
-    ∷ IsRefusedBegin (Outside false) false 5 (StoppedBy (Damage 1)) (Calls (Get 5) ∷ CommitAct ∷ CheckpointAct ∷ [])
-    ∷ Skips true (Calls (Get 5)) (CommitAct ∷ CheckpointAct ∷ [])
-    ∷ Skips true CommitAct (CheckpointAct ∷ [])
-    ∷ IsRefusedCheckpoint true None false [] 5 (StoppedBy (Damage 1)) []
-    ∷ []
+use Rattle.dali_transcripts.proofs.Ends.{grew_from, no_row, none_claimed, none_failed, neither_live, strays_same, whole_round, ended_together, by_one}
 
 so_1 : IsSoFar world 1 told_1 lines_1 (deeds_of world 1) [] (at (Outside true) [])
-unfolding moves_1
 so_1 = record {
-  moves = moves_1;
+  moves =
+      Pokes false 2 1 9 1 (AuditAct ∷ BeginAct ∷ Calls (Get 5) ∷ CommitAct ∷ CheckpointAct ∷ [])
+      ∷ Audits 3 4 (1 ∷ []) None (BeginAct ∷ Calls (Get 5) ∷ CommitAct ∷ CheckpointAct ∷ [])
+      ∷ IsRefusedBegin (Outside false) false 5 (StoppedBy (Damage 1)) (Calls (Get 5) ∷ CommitAct ∷ CheckpointAct ∷ [])
+      ∷ Skips true (Calls (Get 5)) (CommitAct ∷ CheckpointAct ∷ [])
+      ∷ Skips true CommitAct (CheckpointAct ∷ [])
+      ∷ IsRefusedCheckpoint true None false [] 5 (StoppedBy (Damage 1)) []
+      ∷ [];
   path = (
     refl,
     omega arith,
@@ -54,21 +49,17 @@ none_committed zero h e = absurd (cc)
 none_committed (suc zero) h e = absurd (cc)
 none_committed (suc (suc k)) h e = absurd (omega (arith, h))
 
-moves_2 : List Move
-moves_2 =
-    Begins 1 1 (AbortAct ∷ BeginAct ∷ Calls (Get 5) ∷ [])
-    ∷ Aborts 1 0 told_2 None [] 2 (BeginAct ∷ Calls (Get 5) ∷ [])
-    ∷ IsRefusedBegin (Outside false) false 4 (Full 29 30) (Calls (Get 5) ∷ [])
-    ∷ Skips false (Calls (Get 5)) []
-    ∷ []
-
 full_2 : IsFull world 4 BeginAct None 29 30
 full_2 = record { limit_is = refl; end_is = refl; refused = Begin 2; next = (2, refl, refl); spelled = omega arith; passes = omega arith; runs = refl }
 
 so_2 : IsSoFar world 2 told_2 lines_2 (deeds_of world 2) [] (at (LeftOut false) [])
-unfolding moves_2
 so_2 = record {
-  moves = moves_2;
+  moves =
+      Begins 1 1 (AbortAct ∷ BeginAct ∷ Calls (Get 5) ∷ [])
+      ∷ Aborts 1 0 told_2 None [] 2 (BeginAct ∷ Calls (Get 5) ∷ [])
+      ∷ IsRefusedBegin (Outside false) false 4 (Full 29 30) (Calls (Get 5) ∷ [])
+      ∷ Skips false (Calls (Get 5)) []
+      ∷ [];
   path = (
     refl,
     tt,
@@ -135,35 +126,24 @@ verdict i b c found e r g was =
     let size : length (log_at world 5) ≡ 4 = refl in
     rw (here, named, begun) (5, omega arith, omega (arith, size), names r g was)
 
-holds : (r : ℕ) (g : RegionState) → slice_get world.core.regions r ≡ Some g → IsLive g → ⊥
-holds = neither_live (loaded index_words) (poked 9 1 (loaded heap_words)) refl refl
-
--- all transactions have ended
-ended : (t : ℕ) → fold (state_step t) None happened ≡ None
-ended zero = refl
-ended (suc zero) = refl
-ended (suc (suc t)) = let a : (1 == suc (suc t)) ≡ false = ne_eqb 1 (suc (suc t)) (λ e. absurd (omega (arith, e))) in rw a refl
-
-freed : (t k : ℕ) → fold (lock_step t k) None happened ≡ None
-freed zero k = refl
-freed (suc zero) k = refl
-freed (suc (suc t)) k = let a : (1 == suc (suc t)) ≡ false = ne_eqb 1 (suc (suc t)) (λ e. absurd (omega (arith, e))) in rw a refl
-
 rests : IsAtRest world.core
-rests = record { stopped = λ e. let no : false ≡ true = e in absurd (cc); holds = holds; flag = refl; free = none_claimed world.core.system refl }
+rests = record { stopped = λ e. let no : false ≡ true = e in absurd (cc); holds = neither_live (loaded index_words) (poked 9 1 (loaded heap_words)) refl refl; flag = refl; free = none_claimed world.core.system refl }
 
 between : IsBetween world.core
 between = record { rests = rests; idle = λ runs t h. absurd (no_row world.core.system refl t h) }
 
 pub corners_run : CornersRun
-unfolding transcripts so_1 so_2 moves_1 moves_2
+unfolding transcripts so_1 so_2
 corners_run = record {
   lines = lines_2 ∷ lines_1 ∷ [];
   receipts = (1 ∷ 2 ∷ []) ∷ (3 ∷ 4 ∷ []) ∷ [];
   round =
       whole_round world _ _ _ _ refl (grew_from world refl refl refl refl refl (omega arith)) refl transcripts refl
       (refl, (tt, (refl, (refl, ((BeginAct, None, full_2), (refl, ((BeginAct, None, (tt, refl)), ((BeginAct, None, (tt, refl)), tt))))))))
-      (ended_together world tt refl strays verdict refl refl refl ended freed (none_failed world refl refl refl refl refl) refl refl refl)
+      (ended_together world tt refl strays verdict refl refl refl
+      (by_one (λ t. fold (state_step t) None happened ≡ None) refl (λ t apart. rw apart refl))
+      (λ t k. by_one (λ u. fold (lock_step u k) None happened ≡ None) refl (λ u apart. rw apart refl) t)
+      (none_failed world refl refl refl refl refl) refl refl refl)
       rests between;
   printed_is = refl;
 }

@@ -4,7 +4,7 @@ use Rattle.std.specs.Prelude.{◌==◌, IsSome, IsSomeAnd, is_some, fold, not, s
 use Rattle.std.specs.List.{list_all}
 use Rattle.std.specs.Ordering.{nat_cmp}
 use Rattle.std.specs.FinMap.{get, empty, get-empty}
-use Rattle.std.proofs.lemmas.Bool.{ne_eqb}
+use Rattle.std.proofs.lemmas.Bool.{ne_eqb, eqb-true}
 use Rattle.dali_counts.proofs.Lists.{some_same}
 use Rattle.dali_record.specs.declared.records.Record.{Record}
 use Rattle.dali_record.specs.Spelling.{record_length}
@@ -81,6 +81,14 @@ none_failed w old new faults none all = record {
 }
 
 -- numbers above three are none of the first
+-- what is so of 1 and of each other number is so of all
+pub by_one : (P : ℕ → Type 0) → P 1 → ((t : ℕ) → (1 == t) ≡ false → P t) → (t : ℕ) → P t
+by_one P one other t = by_test (1 == t) refl
+  where
+    by_test : (b : Bool) → (1 == t) ≡ b → P t
+    by_test true e = subst P (eqb-true 1 t e) one
+    by_test false e = other t e
+
 pub above_three : (t : ℕ) → ((1 == suc (suc (suc (suc t)))) ≡ false) × ((2 == suc (suc (suc (suc t)))) ≡ false) × ((3 == suc (suc (suc (suc t)))) ≡ false)
 above_three t = (
   ne_eqb 1 (suc (suc (suc (suc t)))) (λ e. absurd (omega (arith, e))),

@@ -1,21 +1,20 @@
 -- The third worked round.
-use Rattle.std.proofs.Common.{◌≡◌, ◌≢◌, ℕ, zero, suc, true, false, List, [], ◌∷◌, Some, None, refl, ap, sym, subst, ◌∙◌, inl, arith}
+use Rattle.std.proofs.Common.{◌≡◌, ◌≢◌, ℕ, zero, suc, true, false, [], ◌∷◌, Some, None, refl, ap, sym, subst, ◌∙◌, inl, arith}
 use Rattle.std.specs.Prelude.{◌++◌, if◌then◌else◌, ◌==◌, fold, length, slice_get, take, Contains, ◌↔◌}
 use Rattle.std.specs.FinMap.{empty, insert, get-empty}
 use Rattle.std.specs.Ordering.{nat_cmp}
 use Rattle.dali_att.specs.Table.{fresh_row}
 use Rattle.dali_att.proofs.Changes.{get-added}
-use Rattle.std.proofs.lemmas.Bool.{ne_eqb}
 use Rattle.std.proofs.lemmas.List.{append-nil}
 use Rattle.dali_counts.proofs.Lists.{some_same}
 use Rattle.dali_record.specs.declared.records.Record.TheVariants.{Forward, Ended, AuditClean}
-use Rattle.dali_region.specs.State.{RegionState, IsLive, loaded, poked}
+use Rattle.dali_region.specs.State.{RegionState, loaded, poked}
 use Rattle.dali_system.specs.declared.causes.Cause.TheVariants.{Store}
 use Rattle.dali_system.specs.State.{row_of, state_in, state_of}
 use Rattle.dali_transcripts.specs.Words.{Begins as BeginAct, Calls, Commits as CommitAct, Aborts as AbortAct, Checkpoints as CheckpointAct, StoppedBy, Damaged, StoreFailed, UnderWay}
 use Rattle.dali_locks.specs.declared.mode.Mode.TheVariants.{Exclusive}
 use Rattle.dali_transcripts.specs.World.{Logs, DiesOn, GetsLock, Meets, log_at, state_step, lock_step, is_claimed_in, stray_after}
-use Rattle.dali_transcripts.specs.Moves.{Outside, Move, Begins, IsRefusedBegin, Skips, IsRefusedCall, Commits, CommitFails, StaysOpen, Pokes, Checkpoints, IsRefusedCheckpoint, at}
+use Rattle.dali_transcripts.specs.Moves.{Outside, Begins, IsRefusedBegin, Skips, IsRefusedCall, Commits, CommitFails, StaysOpen, Pokes, Checkpoints, IsRefusedCheckpoint, at}
 use Rattle.dali_transcripts.specs.Causes.{IsDamaged, IsUnderWay, IsGrantable}
 use Rattle.dali_transcripts.specs.Transcripts.{IsSoFar, deeds_of, AreTranscripts}
 use Rattle.dali_transcripts.specs.Rounds.{PokesTell, VerdictsTell, FaultsTell, PrecheckTells, IsAtRest, IsBetween}
@@ -26,15 +25,7 @@ use Rattle.dali_transcripts.proofs.Looks.{looks_now}
 use Rattle.dali_transcripts.proofs.Locked.{keeps_locks}
 use Rattle.dali_transcripts.proofs.Worked.{puts_a}
 use Rattle.dali_transcripts.proofs.Verdicts.{begin_is, ends_at, found_is, is_death, is_operation, never, only_at, region_in}
-use Rattle.dali_transcripts.proofs.Ends.{fails, grew_from, no_state, all_freed, none_in_the_way, neither_live, strays_same, above_three, whole_round}
-
-moves_1 : List Move
-moves_1 =
-    Pokes false 3 1 9 1 (BeginAct ∷ Calls insert_a ∷ CommitAct ∷ [])
-    ∷ Begins 1 3 (Calls insert_a ∷ CommitAct ∷ [])
-    ∷ IsRefusedCall 1 0 (BeginAct ∷ Calls insert_a ∷ CommitAct ∷ []) None false ((6, GetsLock 1 5 Exclusive) ∷ (6, Logs (Forward 1 look)) ∷ []) 7 [] insert_a (Damaged 1 1 0) (CommitAct ∷ [])
-    ∷ Commits 1 0 (BeginAct ∷ Calls insert_a ∷ CommitAct ∷ []) None 7 ((8, Logs (Ended 1)) ∷ []) []
-    ∷ []
+use Rattle.dali_transcripts.proofs.Ends.{fails, grew_from, no_state, all_freed, none_in_the_way, neither_live, strays_same, above_three, whole_round, by_one}
 
 damaged_1 : IsDamaged world 12 1 insert_a 1 1 0
 damaged_1 = record { compares = refl; next = put 97 0; on_region = refl; goes_on = record { of_call = record { words = heap_words; are_words = (refl, omega arith); of_call = refl; is_made = puts_a }; allowed = refl; locked = (tt, keeps_locks 1 (last_epoch (log_at world 12 ++ Forward 1 (put 97 0) ∷ [])).records refl) }; old = loaded heap_words; was = refl; stray = refl; differ = refl }
@@ -43,9 +34,13 @@ under_way_1 : IsUnderWay world 1 3
 under_way_1 = record { other = 2; differs = refl; started = refl }
 
 so_1 : IsSoFar world 1 told_1 lines_1 (deeds_of world 1) [] (at (Outside false) [])
-unfolding moves_1
 so_1 = record {
-  moves = moves_1;
+  moves =
+      Pokes false 3 1 9 1 (BeginAct ∷ Calls insert_a ∷ CommitAct ∷ [])
+      ∷ Begins 1 3 (Calls insert_a ∷ CommitAct ∷ [])
+      ∷ IsRefusedCall 1 0 (BeginAct ∷ Calls insert_a ∷ CommitAct ∷ []) None false ((6, GetsLock 1 5 Exclusive) ∷ (6, Logs (Forward 1 look)) ∷ []) 7 [] insert_a (Damaged 1 1 0) (CommitAct ∷ [])
+      ∷ Commits 1 0 (BeginAct ∷ Calls insert_a ∷ CommitAct ∷ []) None 7 ((8, Logs (Ended 1)) ∷ []) []
+      ∷ [];
   path = (
     refl,
     omega arith,
@@ -76,31 +71,23 @@ so_1 = record {
   did_are = refl;
 }
 
-moves_2 : List Move
-moves_2 = Checkpoints 1 1 2 3 3 1 (BeginAct ∷ []) ∷ Begins 3 5 [] ∷ StaysOpen 3 0 (BeginAct ∷ []) None false [] 10 Store ∷ []
-
 so_2 : IsSoFar world 2 told_2 lines_2 (deeds_of world 2) [] (at (Outside true) [])
-unfolding moves_2
 so_2 = record {
-  moves = moves_2;
+  moves = Checkpoints 1 1 2 3 3 1 (BeginAct ∷ []) ∷ Begins 3 5 [] ∷ StaysOpen 3 0 (BeginAct ∷ []) None false [] 10 Store ∷ [];
   path = (refl, omega arith, (refl, tt, (refl, (tt, record { met = record { place = 18; there = refl; number = refl }; cause = (tt, refl) }), refl)));
   lines_are = refl;
   did_are = refl;
 }
 
-moves_3 : List Move
-moves_3 =
-    IsRefusedCheckpoint false None false [] 1 UnderWay (BeginAct ∷ CommitAct ∷ BeginAct ∷ AbortAct ∷ [])
-    ∷ Begins 2 4 (CommitAct ∷ BeginAct ∷ AbortAct ∷ [])
-    ∷ CommitFails 2 0 (BeginAct ∷ CommitAct ∷ BeginAct ∷ AbortAct ∷ []) None 9 10 StoreFailed (BeginAct ∷ AbortAct ∷ [])
-    ∷ IsRefusedBegin (Outside true) true 10 (StoppedBy Store) (AbortAct ∷ [])
-    ∷ Skips true AbortAct []
-    ∷ []
-
 so_3 : IsSoFar world 3 told_3 lines_3 (deeds_of world 3) [] (at (Outside true) [])
-unfolding moves_3
 so_3 = record {
-  moves = moves_3;
+  moves =
+      IsRefusedCheckpoint false None false [] 1 UnderWay (BeginAct ∷ CommitAct ∷ BeginAct ∷ AbortAct ∷ [])
+      ∷ Begins 2 4 (CommitAct ∷ BeginAct ∷ AbortAct ∷ [])
+      ∷ CommitFails 2 0 (BeginAct ∷ CommitAct ∷ BeginAct ∷ AbortAct ∷ []) None 9 10 StoreFailed (BeginAct ∷ AbortAct ∷ [])
+      ∷ IsRefusedBegin (Outside true) true 10 (StoppedBy Store) (AbortAct ∷ [])
+      ∷ Skips true AbortAct []
+      ∷ [];
   path = (
     refl,
     (refl, refl, (record { met = record { place = 1; there = refl; number = refl }; cause = under_way_1 }, tt)),
@@ -155,9 +142,6 @@ verdict i b c found e r g was =
     let size : length (log_at world 3) ≡ 2 = refl in
     rw (here, named, begun) (3, omega arith, omega (arith, size), names r g was)
 
-holds : (r : ℕ) (g : RegionState) → slice_get world.core.regions r ≡ Some g → IsLive g → ⊥
-holds = neither_live (loaded index_words) (poked 9 1 (loaded heap_words)) refl refl
-
 -- ---- the table
 kept : (t : ℕ) → state_in (if 3 == t then Some fresh_row else (if 2 == t then Some committed else None)) ≡ fold (state_step t) None happened
 kept zero = refl
@@ -177,11 +161,6 @@ none_claimed (suc zero) = refl
 none_claimed (suc (suc zero)) = refl
 none_claimed (suc (suc (suc zero))) = refl
 none_claimed (suc (suc (suc (suc t)))) = let apart = above_three t in rw (apart.0, apart.1, apart.2) refl
-
-freed : (t k : ℕ) → fold (lock_step t k) None happened ≡ None
-freed zero k = refl
-freed (suc zero) k = refl
-freed (suc (suc t)) k = let a : (1 == suc (suc t)) ≡ false = ne_eqb 1 (suc (suc t)) (λ e. absurd (omega (arith, e))) in rw a refl
 
 free_1 : IsGrantable world 10 1 5 Exclusive
 free_1 = none_in_the_way world 10 1 5 Exclusive refl (λ u other. refl)
@@ -213,13 +192,13 @@ prechecks = record {
 }
 
 rests : IsAtRest world.core
-rests = record { stopped = λ e. (Store, refl); holds = holds; flag = refl; free = λ t. ap is_claimed_in (state_is t) ∙ none_claimed t }
+rests = record { stopped = λ e. (Store, refl); holds = neither_live (loaded index_words) (poked 9 1 (loaded heap_words)) refl refl; flag = refl; free = λ t. ap is_claimed_in (state_is t) ∙ none_claimed t }
 
 between : IsBetween world.core
 between = record { rests = rests; idle = λ runs. let no : Some Store ≡ None = runs in absurd (cc) }
 
 pub faults_run : FaultsRun
-unfolding transcripts so_1 so_2 so_3 moves_1 moves_2 moves_3
+unfolding transcripts so_1 so_2 so_3
 faults_run = record {
   lines = lines_1 ∷ lines_2 ∷ lines_3 ∷ [];
   receipts = (3 ∷ 6 ∷ 7 ∷ 8 ∷ []) ∷ (1 ∷ 2 ∷ 5 ∷ []) ∷ (4 ∷ 9 ∷ []) ∷ [];
@@ -232,7 +211,7 @@ faults_run = record {
         pokes = strays;
         verdicts = verdict;
         states = λ t. state_is t ∙ sym (ap (λ o. fold (state_step t) o happened) (no_state world.old.system refl t));
-        locks = all_freed world refl freed;
+        locks = all_freed world refl (λ t k. by_one (λ u. fold (lock_step u k) None happened ≡ None) refl (λ u apart. rw apart refl) t);
         faults = failed;
         refusals = refl;
         room = refl;

@@ -9,7 +9,7 @@ use Rattle.dali_system.specs.declared.refusals.Refusal.{Refusal}
 use Rattle.dali_system.specs.State.{CoreState, VaultState, stable}
 use Rattle.dali_system.specs.Steps.{stop_by_audit, stopped_by}
 use Rattle.dali_system.specs.Flushes.{frame_of, longer}
-use Rattle.dali_system.specs.Courses.{Step, Begins, Operates, TakesBack, Frees, Answers, Commits, Ends, AuditBegins, AuditEnds, Locks, Refuses, OnRegion, Passes, Dies, Claims, GivesBack, Recovers, Stops, Checkpoints, Takes, Flushes, Faults, ReadFails, IsStep, Moment, IsCourse}
+use Rattle.dali_system.specs.Courses.{Step, Begins, Operates, Answers, AuditEnds, Refuses, OnRegion, Dies, GivesBack, Recovers, Stops, Checkpoints, Takes, Flushes, Faults, ReadFails, IsStep, Moment, IsCourse}
 use Rattle.dali_system.proofs.Flushes.{longer_stopped}
 use Rattle.dali_transcripts.specs.World.{Happening, World, Grows}
 use Rattle.dali_transcripts.specs.Grown.{world_of, StepsGrow, CoursesGrow}
@@ -54,19 +54,11 @@ longer_flushed v (r ∷ rs) = omega arith
 along : (L M : List Record) (c d : CoreState) (x : Step) → IsStep L c x M d → Onward c d
 along L M c d Begins (room, adds) = rw (adds.1) (plain c _ refl refl refl refl refl refl)
 along L M c d (Operates t b) (g, room, may, adds) = rw (adds.1) (plain c _ refl refl refl refl refl refl)
-along L M c d (TakesBack t b) (g, may, adds) = rw (adds.1) (plain c _ refl refl refl refl refl refl)
-along L M c d (Frees p b) (g, may, adds) = rw (adds.1) (plain c _ refl refl refl refl refl refl)
 along L M c d (Answers t k a) (room, spelled, next, adds) = rw (adds.1) (plain c _ refl refl refl refl refl refl)
-along L M c d (Commits t) (runs, next, adds) = rw (adds.1) (plain c _ refl refl refl refl refl refl)
-along L M c d (Ends t) (runs, next, adds) = rw (adds.1) (plain c _ refl refl refl refl refl refl)
-along L M c d AuditBegins (runs, room, adds) = rw (adds.1) (plain c _ refl refl refl refl refl refl)
 along L M c d (AuditEnds b found) (may, adds) = rw (adds.1) (record { sizes = refl; limit = refl; flushed = omega arith; failed = λ e. e; sealed = λ e. refl; stop = λ z e. audit_stop found c.system.stop z may.runs e; refusals = λ f h. h })
-along L M c d (Locks t k m) (row, answer, adds) = rw (adds.1) (plain c _ refl refl refl refl refl refl)
 along L M c d (Refuses t k m h) (row, answer, adds) = rw (adds.1) (record { sizes = refl; limit = refl; flushed = omega arith; failed = λ e. e; sealed = λ e. refl; stop = λ z e. e; refusals = λ f is. Contains-append_left c.system.refusals _ f is })
 along L M c d (OnRegion r x) (g, at, may, adds) = rw (adds.1) (plain c _ refl refl refl refl refl refl)
-along L M c d (Passes b r) (g, at, adds) = rw (adds.1) (plain c _ refl refl refl refl refl refl)
 along L M c d (Dies t o) (may, adds) = rw (adds.1) (plain c _ refl refl refl refl refl refl)
-along L M c d (Claims t) (o, may, adds) = rw (adds.1) (plain c _ refl refl refl refl refl refl)
 along L M c d (GivesBack t o) (may, adds) = rw (adds.1) (plain c _ refl refl refl refl refl refl)
 along L M c d (Recovers r) (g, at, may, adds) = rw (adds.1) (plain c _ refl refl refl refl refl refl)
 along L M c d Stops (stopped, adds) = rw (adds.1) (record { sizes = refl; limit = refl; flushed = omega arith; failed = λ e. e; sealed = λ e. refl; stop = λ z e. keeps_stop c.system.stop z e; refusals = λ f h. h })
@@ -85,6 +77,7 @@ along L M c d Flushes (runs, adds) =
     })
 along L M c d (Faults k) (runs, rose, adds) = rw (adds.1) (record { sizes = refl; limit = refl; flushed = omega arith; failed = λ e. refl; sealed = λ e. refl; stop = λ z e. e; refusals = λ f h. h })
 along L M c d (ReadFails k) (rose, adds) = rw (adds.1) (record { sizes = refl; limit = refl; flushed = omega arith; failed = λ e. e; sealed = λ e. refl; stop = λ z e. e; refusals = λ f h. h })
+along L M c d _ s = rw (s.2.1) (plain c _ refl refl refl refl refl refl)
 
 still : (c : CoreState) → Onward c c
 still c = plain c c refl refl refl refl refl refl

@@ -4,11 +4,11 @@ use Rattle.std.specs.Prelude.{not, ◌&&◌}
 use Rattle.std.specs.List.{list_all}
 use Rattle.std.proofs.lemmas.Bool.{and_from}
 use Rattle.dali_record.specs.declared.records.Call.{Call}
-use Rattle.dali_record.specs.declared.records.Record.TheVariants.{Back, Ended, Solo, AuditBegin, AuditClean, AuditFail}
+use Rattle.dali_record.specs.declared.records.Record.TheVariants.{Ended, AuditBegin, AuditClean, AuditFail, Forward}
 use Rattle.dali_system.specs.declared.refusals.Refusal.{Refusal}
 use Rattle.dali_transcripts.specs.Words.{Why, StoppedBy, Full, Damaged, StoreFailed, UnderWay}
-use Rattle.dali_transcripts.specs.World.{Logs, Claims, GivesBack, Yields, FindsDead, EndsCheckpoint, Meets, World}
-use Rattle.dali_transcripts.specs.Moves.{Receipt, Ending, TakenBack, LeftBehind, IsRefusedCall, Answers, Dies, GivesWay, GivesUp, Commits, CommitFails, Aborts, IsRefusedAbort, Ends, StaysOpen, Audits, IsRefusedAudit, FailsCheckpoint, IsRefusedCheckpoint, end_own, spanned, refused_own}
+use Rattle.dali_transcripts.specs.World.{Logs, Yields, EndsCheckpoint, Meets, World}
+use Rattle.dali_transcripts.specs.Moves.{Receipt, Ending, TakenBack, LeftBehind, IsRefusedCall, Answers, Dies, GivesWay, GivesUp, Commits, CommitFails, Aborts, IsRefusedAbort, Ends, StaysOpen, Audits, IsRefusedAudit, FailsCheckpoint, IsRefusedCheckpoint, end_own, spanned, refused_own, audit_own, failure_own}
 use Rattle.dali_transcripts.specs.Causes.{IsAside, AreAside, IsAsking, AreAsking, IsBehind, AreBehind, IsCutAudit, IsCutBy}
 use Rattle.dali_transcripts.specs.Laws.{is_forward, OperationsAreTold}
 
@@ -24,24 +24,16 @@ none_append [] ys e f = f
 none_append (x ∷ xs) ys e f = split (not (is_forward x)) (none xs) (none (xs ++ ys)) e (λ g. none_append xs ys g f)
 
 aside_none : (w : World) (c t : ℕ) (x : Receipt) → IsAside w c t x → not (is_forward x) ≡ true
-aside_none w c t (n, Logs (Back u b)) h = refl
-aside_none w c t (n, Logs (Ended u)) h = refl
-aside_none w c t (n, Claims u) h = refl
-aside_none w c t (n, GivesBack u latched) h = refl
-aside_none w c t x h = absurd h
+aside_none w c t (n, Logs (Forward u b)) h = absurd h
+aside_none w c t _ h = refl
 
 asking_none : (w : World) (c t : ℕ) (call : Call) (x : Receipt) → IsAsking w c t call x → not (is_forward x) ≡ true
-asking_none w c t call (n, FindsDead f) h = refl
-asking_none w c t call x h = aside_none w c t x h
+asking_none w c t call (n, Logs (Forward u b)) h = absurd h
+asking_none w c t call _ h = refl
 
 behind_none : (w : World) (c t : ℕ) (x : Receipt) → IsBehind w c t x → not (is_forward x) ≡ true
-behind_none w c t (n, Meets StoreFailed) h = refl
-behind_none w c t (n, Logs (Solo u p b)) h = refl
-behind_none w c t (n, Logs (Ended u)) h = refl
-behind_none w c t (n, Logs (Back u b)) h = refl
-behind_none w c t (n, Claims u) h = refl
-behind_none w c t (n, GivesBack u latched) h = refl
-behind_none w c t x h = absurd h
+behind_none w c t (n, Logs (Forward u b)) h = absurd h
+behind_none w c t _ h = refl
 
 asides_none : (w : World) (c t : ℕ) (xs : List Receipt) → AreAside w c t xs → none xs ≡ true
 asides_none w c t [] h = refl
@@ -89,6 +81,13 @@ end_none t (LeftBehind n z) = refl
 busy_none : (w : World) (c t : ℕ) (call : Call) (xs ys : List Receipt) (f : Refusal) (end : Ending) → AreAsking w c t call xs → AreAside w c t ys → none (xs ++ (f.at, Yields f) ∷ ys ++ end_own t end) ≡ true
 busy_none w c t call xs ys f end work back = none_append (xs ++ (f.at, Yields f) ∷ ys) (end_own t end) (none_append xs ((f.at, Yields f) ∷ ys) (askings_none w c t call xs work) (asides_none w c t ys back)) (end_none t end)
 
+-- what an audit did
+audit_none : (b n : ℕ) (found : List ℕ) (failed : Option ℕ) → none (audit_own b n found ++ failure_own failed) ≡ true
+audit_none b n [] None = refl
+audit_none b n [] (Some m) = refl
+audit_none b n (r ∷ rs) None = refl
+audit_none b n (r ∷ rs) (Some m) = refl
+
 pub operations_are_told : OperationsAreTold
 operations_are_told w c (Answers t tries cs d xs n call a rest) h e = absurd (cc)
 operations_are_told w c (IsRefusedCall t tries cs d s xs n ys call why rest) h e = absurd (cc)
@@ -101,10 +100,7 @@ operations_are_told w c (Aborts t tries cs d xs n rest) h e = none_append xs ((n
 operations_are_told w c (IsRefusedAbort t tries cs d s xs n why rest) h e = none_append xs ((n, Meets why) ∷ []) (asides_none w c t xs h.0) refl
 operations_are_told w c (Ends t tries cs d xs n) h e = none_append xs ((n, Logs (Ended t)) ∷ []) (asides_none w c t xs h.0) refl
 operations_are_told w c (StaysOpen t tries cs d s xs n z) h e = none_append xs ((n, Meets (StoppedBy z)) ∷ []) (asides_none w c t xs h.0) refl
-operations_are_told w c (Audits b n [] None rest) h e = refl
-operations_are_told w c (Audits b n [] (Some m) rest) h e = refl
-operations_are_told w c (Audits b n (r ∷ rs) None rest) h e = refl
-operations_are_told w c (Audits b n (r ∷ rs) (Some m) rest) h e = refl
+operations_are_told w c (Audits b n found failed rest) h e = audit_none b n found failed
 operations_are_told w c (FailsCheckpoint since b n until r rs None rest) h e = refl
 operations_are_told w c (FailsCheckpoint since b n until r rs (Some m) rest) h e = refl
 operations_are_told w c (IsRefusedAudit s xs n why rest) h e = none_append xs ((n, Meets why) ∷ []) (cut_by_none w false why xs h.0) refl

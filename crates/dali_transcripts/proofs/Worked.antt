@@ -5,7 +5,7 @@ use Rattle.std.specs.List.{list_all}
 use Rattle.std.proofs.lemmas.Bool.{ne_eqb}
 use Rattle.dali_lists.proofs.Tests.{left_true, right_true}
 use Rattle.dali_counts.proofs.Lists.{self, some_same}
-use Rattle.dali_region.specs.State.{RegionState, IsLive, loaded}
+use Rattle.dali_region.specs.State.{loaded}
 use Rattle.dali_locks.specs.declared.mode.Mode.TheVariants.{Shared, Exclusive}
 use Rattle.dali_index.specs.Entries.{entries}
 use Rattle.dali_heap.specs.Cells.{cells}
@@ -226,9 +226,6 @@ no_stray (suc (suc r)) g h e f = absurd (cc)
 no_verdict : VerdictsTell world
 no_verdict i b c found e = absurd (none_ends happened i b c found refl e)
 
-holds : (r : ℕ) (g : RegionState) → slice_get world.core.regions r ≡ Some g → IsLive g → ⊥
-holds = neither_live (loaded index_words) (loaded heap_words) refl refl
-
 -- all transactions have ended
 ended : (t : ℕ) → fold (state_step t) None happened ≡ None
 ended zero = refl
@@ -267,7 +264,7 @@ hindered_2 : IsHindered world 2 7 refusal
 hindered_2 = record { mode = Exclusive; holds = told_locks world refl (take 7 happened) 1 5; clash = refl; by_another = inr (1, Exclusive, refl, (2, omega arith, refl)); unclaimed = λ own. refl }
 
 rests : IsAtRest world.core
-rests = record { stopped = λ e. let no : false ≡ true = e in absurd (cc); holds = holds; flag = refl; free = none_claimed world.core.system refl }
+rests = record { stopped = λ e. let no : false ≡ true = e in absurd (cc); holds = neither_live (loaded index_words) (loaded heap_words) refl refl; flag = refl; free = none_claimed world.core.system refl }
 
 between : IsBetween world.core
 between = record { rests = rests; idle = λ runs t h. absurd (no_row world.core.system refl t h) }

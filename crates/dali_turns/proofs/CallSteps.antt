@@ -26,6 +26,7 @@ use Rattle.dali_calls.specs.Steps.{call_key, answer_of, next_op}
 use Rattle.dali_calls.specs.declared.plan.Phase.{Phase}
 use Rattle.dali_calls.specs.declared.plan.Phase.TheVariants.{Calling as GoesOn, Refused as GoesBack, Answered}
 use Rattle.dali_calls.specs.Plans.{Planned, is_answered, is_back, is_back_in, undo_next, onward_next, commit_refusal, mode_of, plan_next, want_in, want_of, IsWhole}
+use Rattle.dali_single.specs.declared.error.StepError.{StepError}
 use Rattle.dali_single.specs.declared.error.StepError.TheVariants.{Latch, System}
 use Rattle.dali_single.specs.Refusals.{IsAnswerTo, IsLatched, IsUnanswered, IsRefusedIn, IsRefusal}
 use Rattle.dali_single.specs.Single.{MayCall}
@@ -43,7 +44,7 @@ use Rattle.dali_turns.specs.declared.client.State.{State}
 use Rattle.dali_turns.specs.declared.client.State.TheVariants.{Within, Calling, TakingBack, Gone}
 use Rattle.dali_turns.specs.declared.client.Transaction.{Transaction}
 use Rattle.dali_turns.specs.Clients.{next_of, Passes, Finishes, RefusesCall, Stays}
-use Rattle.dali_turns.specs.Calls.{TurnsBack, IsRefusedBy, IsDeadly, IsFurther, call_in}
+use Rattle.dali_turns.specs.Calls.{TurnsBack, IsRefusedBy, IsDeadly, IsFurther, MakesNext, call_in}
 use Rattle.dali_clients.specs.Told.{act_of, said_of}
 use Rattle.dali_turns.specs.Fits.{Fits}
 use Rattle.dali_turns.specs.Goes.{Went, StepGoes}
@@ -298,10 +299,20 @@ on_err (Ok t) P Q f h = tt
 on_err (Err e) P Q f h = f h
 
 -- ---- where a call left plan and core as they were
-module _ {V : Type 0} (told : V → Option Disk) (may_leave : V → Disk → Type 0) (faults : V → ℕ) (k : Client) (gs rs : List RegionState) (y m : SystemState) (v u : Vaulted V) (regions : rs ≡ gs) (system : m ≡ y) (vault : u ≡ v) where
-  pub rest_still : (plan q : Planned) → q ≡ plan → IsAtRest gs y plan → IsAtRest rs m q
-  rest_still plan q same rest = subst (λ (p : Planned). IsAtRest rs m p) (sym same) (subst (λ (l : List RegionState). IsAtRest l m plan) (sym regions) (subst (λ (n : SystemState). IsAtRest gs n plan) (sym system) rest))
+module _ (gs rs : List RegionState) (y m : SystemState) (regions : rs ≡ gs) (system : m ≡ y) (plan q : Planned) (same : q ≡ plan) where
+  pub makes_still : (command : Option Command) (region : ℕ) → MakesNext gs y plan command region → MakesNext rs m q command region
+  makes_still command region makes = record {
+    rest = subst (λ (p : Planned). IsAtRest rs m p) (sym same) (subst (λ (l : List RegionState). IsAtRest l m plan) (sym regions) (subst (λ (n : SystemState). IsAtRest gs n plan) (sym system) makes.rest));
+    called = makes.called;
+    wants = ap want_of same ∙ makes.wants;
+    whole = subst IsWhole (sym same) makes.whole;
+  }
 
+  pub refused_still : (precheck : Bool) (e : StepError) → IsRefusal precheck plan gs y e → IsRefusal precheck q rs m e
+  refused_still precheck e why =
+      subst (λ (p : Planned). IsRefusal precheck p rs m e) (sym same) (subst (λ (l : List RegionState). IsRefusal precheck plan l m e) (sym regions) (subst (λ (n : SystemState). IsRefusal precheck plan gs n e) (sym system) why))
+
+module _ {V : Type 0} (told : V → Option Disk) (may_leave : V → Disk → Type 0) (faults : V → ℕ) (k : Client) (gs rs : List RegionState) (y m : SystemState) (v u : Vaulted V) (regions : rs ≡ gs) (system : m ≡ y) (vault : u ≡ v) where
   pub goes_still : (precheck : Bool) (state : State) (ok : Bool) (j : Client) (hs : List RegionState) (z : SystemState) (o : Vaulted V) → StepGoes told may_leave faults precheck state k rs m u ok j hs z o → StepGoes told may_leave faults precheck state k gs y v ok j hs z o
   goes_still precheck state ok j hs z o goes =
       subst (λ l. StepGoes told may_leave faults precheck state k l y v ok j hs z o) regions (subst (λ n. StepGoes told may_leave faults precheck state k rs n v ok j hs z o) system (subst (λ n. StepGoes told may_leave faults precheck state k rs m n ok j hs z o) vault goes))

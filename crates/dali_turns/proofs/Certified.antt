@@ -28,11 +28,11 @@ use Rattle.dali_checkpoint.proofs.Audited.{audits_at, ends_clean}
 use Rattle.dali_checkpoint.proofs.Calls.{certify_goes_on}
 use Rattle.dali_checkpoint.proofs.Lengths.{places_stay}
 use Rattle.dali_checkpoint.proofs.Stays.{does_stays, both_stay}
-use Rattle.dali_transcripts.specs.Words.{Checkpoints as CheckpointAct, CheckpointSaid}
+use Rattle.dali_transcripts.specs.Words.{CheckpointSaid}
 use Rattle.dali_transcripts.specs.World.{Deed, Logs, StartsCheckpoint, MovesAnchor, EndsCheckpoint, World, log_of, under_way}
-use Rattle.dali_transcripts.specs.Moves.{Outside as IsOutside, at, Move, Checkpoints as MakesOne, own}
+use Rattle.dali_transcripts.specs.Moves.{Move, Checkpoints as MakesOne, own}
 use Rattle.dali_transcripts.specs.Laws.{receipts_from}
-use Rattle.dali_transcripts.specs.Rounds.{Standing, IsPlaced}
+use Rattle.dali_transcripts.specs.Rounds.{Standing}
 use Rattle.dali_deeds.specs.Tells.{after}
 use Rattle.dali_turns.specs.declared.client.Client.{Client}
 use Rattle.dali_turns.specs.declared.client.State.{State}
@@ -48,7 +48,7 @@ use Rattle.dali_turns.proofs.Beside.{step_image, course_longer}
 use Rattle.dali_turns.proofs.Doing.{Did, did_quietly, did_then, behind, ended, outside_by, went_on, went_by, went_silent}
 use Rattle.dali_turns.proofs.Coursing.{did_course}
 use Rattle.dali_turns.proofs.Ending.{ended_point, end_step, did_end, vault_is, end_number}
-use Rattle.dali_turns.proofs.Starting.{making_on, under_then}
+use Rattle.dali_turns.proofs.Starting.{making_on, under_then, making_spot, making_placed}
 
 module _ {V : Type 0} (told : V → Option Disk) (may_leave : V → Disk → Type 0) (faults : V → ℕ)
     (precheck : Bool) (s : Start) (B : List (List Record)) (p : Point) (w : World) (a : Standing) (gs : List RegionState) (y : SystemState) (v : Vaulted V) (k j : Client)
@@ -59,12 +59,6 @@ module _ {V : Type 0} (told : V → Option Disk) (may_leave : V → Disk → Typ
 
   abbrev count : ℕ
   count = length (log_of w)
-
-  starts : a.spot ≡ at (IsOutside false) (CheckpointAct ∷ fits.making.more)
-  starts = fits.making.spot ∙ ap (at (IsOutside false)) fits.making.makes
-
-  placed : IsPlaced false fits.making.more
-  placed = subst (IsPlaced false) fits.making.makes fits.making.placed
 
   set : y.checking ≡ true
   set = ap (λ (x : SystemState). x.checking) (sym stood.stands.at.system) ∙ fits.making.flag
@@ -251,9 +245,9 @@ module _ {V : Type 0} (told : V → Option Disk) (may_leave : V → Disk → Typ
 
       pub makes : j.transcript.client ≡ k.transcript.client → lines_of j ≡ lines_of k ++ CheckpointSaid (v.current + 1) ∷ [] → rest_of j ≡ fits.making.more → j.state ≡ Outside → Went told may_leave faults precheck s B p w a state gs y v true j gs x u
       makes client lines rest now =
-          went_by told may_leave faults precheck s B t.batches p t.to w a state gs gs y x v u ds k j is whole move starts own_is flushed client lines
-          (subst (λ (m : State). Fits told may_leave faults s t.batches t.to (after w a.client ds t.to.core) gs x u (ended a move) (rest_of j) m) (sym now) (outside_by x a move false fits.making.more (rest_of j) rest (λ e. absurd (cc)) refl placed))
+          went_by told may_leave faults precheck s B t.batches p t.to w a state gs gs y x v u ds k j is whole move (making_spot fits.making) own_is flushed client lines
+          (subst (λ (m : State). Fits told may_leave faults s t.batches t.to (after w a.client ds t.to.core) gs x u (ended a move) (rest_of j) m) (sym now) (outside_by x a move false fits.making.more (rest_of j) rest (λ e. absurd (cc)) refl (making_placed fits.making)))
           (rows_same state j.state y x refl (λ n none. none))
 
       pub makes_silent : j.transcript ≡ k.transcript → Went told may_leave faults precheck s B p w a state gs y v false j gs x u
-      makes_silent same = went_silent told may_leave faults precheck s B t.batches p t.to w a state gs gs y x v u ds k j is whole move starts own_is flushed same
+      makes_silent same = went_silent told may_leave faults precheck s B t.batches p t.to w a state gs gs y x v u ds k j is whole move (making_spot fits.making) own_is flushed same

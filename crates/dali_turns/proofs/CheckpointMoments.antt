@@ -1,5 +1,6 @@
 -- A crash inside a step of a checkpoint.
 use Rattle.std.proofs.Common.{◌≡◌, ℕ, ◌+◌, ◌≤◌, Bool, true, false, List, [], ◌∷◌, length, Option, Some, None, IfSome, Result, Ok, Err, is_some, refl, ap, sym, subst, ◌∙◌}
+use Rattle.dali_lists.proofs.Options.{none_of_test}
 use Rattle.dali_region.specs.State.{RegionState}
 use Rattle.dali_region.specs.Answers.{is_dirty}
 use Rattle.dali_store.specs.Store.{Files as Disk, LeavesOnly}
@@ -19,6 +20,7 @@ use Rattle.dali_checkpoint.specs.declared.error.CheckpointError.{CheckpointError
 use Rattle.dali_checkpoint.specs.declared.error.CheckpointError.TheVariants.{InProgress, Stopped, Fault}
 use Rattle.dali_clients.specs.declared.command.Command.TheVariants.{Checkpoint as IsCheckpoint}
 use Rattle.dali_turns.specs.declared.client.Client.{Client}
+use Rattle.dali_turns.specs.declared.client.State.{State}
 use Rattle.dali_turns.specs.declared.client.State.TheVariants.{Outside, Copying, Certifying}
 use Rattle.dali_turns.specs.Clients.{next_of}
 use Rattle.dali_turns.specs.Moments.{LeavesInStep, StepLeavesRight}
@@ -28,7 +30,7 @@ use Rattle.dali_turns.proofs.Ending.{ended_point, vault_runs}
 use Rattle.dali_turns.proofs.Certified.{one, ran, settled, certified_by}
 use Rattle.dali_turns.proofs.CertifySteps.{Certifies, since_is}
 use Rattle.dali_turns.proofs.Lefts.{flush_leaves, start_leaves_in, copy_leaves_in, settle_leaves_in, certify_leaves_in}
-use Rattle.dali_turns.proofs.Moments.{leaves_still, leaves_by, leaves_behind}
+use Rattle.dali_turns.proofs.Moments.{leaves_still, leaves_by, leaves_behind, leaves_at}
 use Rattle.dali_turns.proofs.AuditMoments.{extends_here}
 
 -- ---- what the start of a checkpoint answers where the engine is stopped
@@ -75,7 +77,7 @@ module _ {V : Type 0} (told : V → Option Disk) (may_leave : V → Disk → Typ
       by_stop None is = runs_there is
 
   module _ (c : Checkpointed) (next : ℕ) (stop : y.stop ≡ None) where
-    pub copy_leaves : (g : RegionState) (at n : ℕ) (t : Vaulted V) → u ≡ t → (is_dirty g (side_in c) ≡ false → t ≡ v)
+    copy_leaves : (g : RegionState) (at n : ℕ) (t : Vaulted V) → u ≡ t → (is_dirty g (side_in c) ≡ false → t ≡ v)
         → (is_dirty g (side_in c) ≡ true → v.stopped ≡ false → LeavesOnly moment left_since v.store t.store (TornFrom (may_leave v.store) (image_name (side_in c)) at n))
         → StepLeavesRight told may_leave faults moment left_since (Copying c next) k gs y v z u
     copy_leaves g at n t left same within = by_flag (is_dirty g (side_in c)) refl
@@ -95,6 +97,13 @@ module _ {V : Type 0} (told : V → Option Disk) (may_leave : V → Disk → Typ
         leaves_by told may_leave faults moment left_since (Copying c next) k gs y z v u (WriteLeaves told may_leave faults y v (image_name (side_in c)) at n)
         (subst (λ (x : Vaulted V). Within told moment left_since v x (WriteLeaves told may_leave faults y v (image_name (side_in c)) at n)) (sym left) (within runs)) s p
         (settle_leaves_in told may_leave faults s B p gs y v c fits.head at n (fits.copying runs) runs)
+
+  -- a client that stands so copies a region
+  pub region_leaves : (state : State) (c : Checkpointed) (next : ℕ) → state ≡ Copying c next → is_some y.stop ≡ false → (g : RegionState) (at n : ℕ) (t : Vaulted V) → u ≡ t → (is_dirty g (side_in c) ≡ false → t ≡ v)
+      → (is_dirty g (side_in c) ≡ true → v.stopped ≡ false → LeavesOnly moment left_since v.store t.store (TornFrom (may_leave v.store) (image_name (side_in c)) at n))
+      → StepLeavesRight told may_leave faults moment left_since state k gs y v z u
+  region_leaves state c next stands runs g at n t left same within =
+      leaves_at told may_leave faults moment left_since state k gs y z v u (Copying c next) stands (copy_leaves c next (none_of_test y.stop runs) g at n t left same within)
 
   -- ---- its end, behind the audit's
   module _ (c : Checkpointed) (audit : Audited) (next : ℕ) (all : length gs ≤ next) (stop : y.stop ≡ None) (x : SystemState) (logs : x ≡ audit_ended y audit.begin (damaged audit.findings))

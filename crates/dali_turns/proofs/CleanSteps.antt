@@ -1,8 +1,9 @@
 -- The steps of a call in whose way a transaction stands whose client died, by what its clean-up says.
-use Rattle.std.proofs.Common.{◌≡◌, ℕ, Bool, true, false, not, List, map, Option, Some, None, IfSome, refl, ap, sym, subst, ◌∙◌, ◌⊎◌, inl, inr}
+use Rattle.std.proofs.Common.{◌≡◌, ℕ, Bool, true, false, not, List, map, Option, Some, None, IfSome, Result, Ok, Err, IsErr, is_ok, refl, ap, sym, subst, ◌∙◌, ◌⊎◌, inl, inr}
 use Rattle.std.specs.Prelude.{◌==◌, ◌&&◌, slice_get}
 use Rattle.std.specs.Option.{option_map}
 use Rattle.dali_att.specs.Table.{with_state}
+use Rattle.dali_bytes.specs.declared.error.OutOfMemory.{OutOfMemory as NoMemory}
 use Rattle.dali_counts.proofs.Lists.{equal}
 use Rattle.dali_record.specs.declared.records.Call.{Call}
 use Rattle.dali_region.specs.State.{RegionState}
@@ -32,7 +33,7 @@ use Rattle.dali_turns.specs.declared.client.State.{State}
 use Rattle.dali_turns.specs.declared.client.State.TheVariants.{Within, Calling, TakingBack}
 use Rattle.dali_turns.specs.declared.client.Transaction.{Transaction}
 use Rattle.dali_turns.specs.Clients.{next_of, Passes, RefusesCall, Stays}
-use Rattle.dali_turns.specs.Ends.{IsCleanedUp, IsLeftDead}
+use Rattle.dali_turns.specs.Ends.{IsCleanedUp, IsLeftDead, ClearsWay}
 use Rattle.dali_turns.specs.Fits.{rest_of}
 use Rattle.dali_turns.specs.Goes.{Went, StepGoes}
 use Rattle.dali_turns.proofs.Here.{MayStep, in_a_run}
@@ -67,21 +68,21 @@ module _ {V : Type 0} (told : V → Option Disk) (may_leave : V → Disk → Typ
     gone_lived : (n : ℕ) → is_open (state_of z n) ≡ true → is_open (state_of y n) ≡ true
     gone_lived = lived gs y t hs z None up.others (ap state_in up.gone.0) (λ e. absurd (cc))
 
-    pub call_again : (call : Call) → next_of k ≡ Some (IsCall call) → Stays k (Within x) j → StepGoes told may_leave faults precheck (Within x) k gs y v true j hs z v
+    call_again : (call : Call) → next_of k ≡ Some (IsCall call) → Stays k (Within x) j → StepGoes told may_leave faults precheck (Within x) k gs y v true j hs z v
     call_again call next f s B p w a stood is fits =
         let lives = ap (λ (m : SystemState). state_of m x.txn) (sym stood.stands.at.system) ∙ fits.lives in
         let (to, cleans) = cleaned told may_leave faults precheck s B p w gs y v stood a.client (Within x) x.txn lives t hs z (up.dead stood.stands.dead) up.others was up.ends up.gone in
         cleaned_on told may_leave faults precheck s B p w a gs y v k x (Within x) stood is lives to hs z cleans gone_lived j f
         (within_behind told may_leave faults precheck s B p w a gs y v k x (Within x) stood is lives to hs z cleans call (behind_next k) (next_act k (IsCall call) next) fits) (λ n e. e) (λ n e. e)
 
-    pub operate_again : (plan : Planned) → Stays k (Calling x plan) j → StepGoes told may_leave faults precheck (Calling x plan) k gs y v true j hs z v
+    operate_again : (plan : Planned) → Stays k (Calling x plan) j → StepGoes told may_leave faults precheck (Calling x plan) k gs y v true j hs z v
     operate_again plan f s B p w a stood is fits =
         let lives = ap (λ (m : SystemState). state_of m x.txn) (sym stood.stands.at.system) ∙ subst (λ n. state_of p.core.system n ≡ Some Live) fits.plan_is.txn fits.plan_is.rest.lives in
         let (to, cleans) = cleaned told may_leave faults precheck s B p w gs y v stood a.client (Calling x plan) x.txn lives t hs z (up.dead stood.stands.dead) up.others was up.ends up.gone in
         cleaned_on told may_leave faults precheck s B p w a gs y v k x (Calling x plan) stood is lives to hs z cleans gone_lived j f
         (calling_behind told may_leave faults precheck s B p w a gs y v k x (Calling x plan) stood is lives to hs z cleans plan fits) (λ n e. e) (λ n e. e)
 
-    pub back_again : (plan : Planned) (why : Why) → Stays k (TakingBack x plan why) j → StepGoes told may_leave faults precheck (TakingBack x plan why) k gs y v true j hs z v
+    back_again : (plan : Planned) (why : Why) → Stays k (TakingBack x plan why) j → StepGoes told may_leave faults precheck (TakingBack x plan why) k gs y v true j hs z v
     back_again plan why f s B p w a stood is fits =
         let lives = ap (λ (m : SystemState). state_of m x.txn) (sym stood.stands.at.system) ∙ subst (λ n. state_of p.core.system n ≡ Some Live) fits.plan_is.txn fits.plan_is.rest.lives in
         let (to, cleans) = cleaned told may_leave faults precheck s B p w gs y v stood a.client (TakingBack x plan why) x.txn lives t hs z (up.dead stood.stands.dead) up.others was up.ends up.gone in
@@ -104,10 +105,10 @@ module _ {V : Type 0} (told : V → Option Disk) (may_leave : V → Disk → Typ
             cleaned_then told may_leave faults precheck s B p w a gs y v k x (Within x) stood is lives to hs z cleans left_lived j hs z v ok
             (within_behind told may_leave faults precheck s B p w a gs y v k x (Within x) stood is lives to hs z cleans call (behind_next k) (next_act k (IsCall call) next) fits) (goes still)
 
-        pub call_stopped : RefusesCall k x (IsStopped stop) j → StepGoes told may_leave faults precheck (Within x) k gs y v true j hs z v
+        call_stopped : RefusesCall k x (IsStopped stop) j → StepGoes told may_leave faults precheck (Within x) k gs y v true j hs z v
         call_stopped f = within_then true (λ still. unasked_goes told may_leave faults precheck hs z v k j x call next z stop refl still f)
 
-        pub call_stopped_silently : (ok : Bool) → ok ≡ false → j.transcript ≡ k.transcript → StepGoes told may_leave faults precheck (Within x) k gs y v ok j hs z v
+        call_stopped_silently : (ok : Bool) → ok ≡ false → j.transcript ≡ k.transcript → StepGoes told may_leave faults precheck (Within x) k gs y v ok j hs z v
         call_stopped_silently ok no_line same = within_then ok (λ still. unasked_silently told may_leave faults precheck hs z v k j x call next z ok stop refl no_line still same)
 
       module _ (plan : Planned) where
@@ -119,10 +120,10 @@ module _ {V : Type 0} (told : V → Option Disk) (may_leave : V → Disk → Typ
             cleaned_then told may_leave faults precheck s B p w a gs y v k x (Calling x plan) stood is lives to hs z cleans left_lived j hs z v ok
             (calling_behind told may_leave faults precheck s B p w a gs y v k x (Calling x plan) stood is lives to hs z cleans plan fits) (goes still)
 
-        pub operate_stopped : RefusesCall k x (IsStopped stop) j → StepGoes told may_leave faults precheck (Calling x plan) k gs y v true j hs z v
+        operate_stopped : RefusesCall k x (IsStopped stop) j → StepGoes told may_leave faults precheck (Calling x plan) k gs y v true j hs z v
         operate_stopped f = calling_then true (λ still s B p w a stood is fits. stopped_said told may_leave faults precheck s B p w a hs z v k j x plan stood is fits stop still f)
 
-        pub operate_stopped_silently : (ok : Bool) → ok ≡ false → Passes k (Within x) j → StepGoes told may_leave faults precheck (Calling x plan) k gs y v ok j hs z v
+        operate_stopped_silently : (ok : Bool) → ok ≡ false → Passes k (Within x) j → StepGoes told may_leave faults precheck (Calling x plan) k gs y v ok j hs z v
         operate_stopped_silently ok no_line f =
             subst (λ b. StepGoes told may_leave faults precheck (Calling x plan) k gs y v b j hs z v) (sym no_line)
             (calling_then false (λ still s B p w a stood is fits. stopped_unsaid told may_leave faults precheck s B p w a hs z v k j x plan stood is fits stop still f))
@@ -136,15 +137,15 @@ module _ {V : Type 0} (told : V → Option Disk) (may_leave : V → Disk → Typ
             cleaned_then told may_leave faults precheck s B p w a gs y v k x (TakingBack x plan why) stood is lives to hs z cleans left_lived j hs z v ok
             (back_behind told may_leave faults precheck s B p w a gs y v k x (TakingBack x plan why) stood is lives to hs z cleans plan why fits) (goes still)
 
-        pub back_stopped : RefusesCall k x (IsStopped stop) j → StepGoes told may_leave faults precheck (TakingBack x plan why) k gs y v true j hs z v
+        back_stopped : RefusesCall k x (IsStopped stop) j → StepGoes told may_leave faults precheck (TakingBack x plan why) k gs y v true j hs z v
         back_stopped f = back_then true (λ still. stuck_goes told may_leave faults precheck hs z v k j x plan why stop still f)
 
-        pub back_stopped_silently : (ok : Bool) → ok ≡ false → j.transcript ≡ k.transcript → StepGoes told may_leave faults precheck (TakingBack x plan why) k gs y v ok j hs z v
+        back_stopped_silently : (ok : Bool) → ok ≡ false → j.transcript ≡ k.transcript → StepGoes told may_leave faults precheck (TakingBack x plan why) k gs y v ok j hs z v
         back_stopped_silently ok no_line same = back_then ok (λ still. stuck_silently told may_leave faults precheck hs z v k j x plan why ok stop no_line still same)
 
     -- or for want of memory
     module _ (same : j.transcript ≡ k.transcript) where
-      pub call_half : (call : Call) → next_of k ≡ Some (IsCall call) → (ok : Bool) → ok ≡ false → StepGoes told may_leave faults precheck (Within x) k gs y v ok j hs z v
+      call_half : (call : Call) → next_of k ≡ Some (IsCall call) → (ok : Bool) → ok ≡ false → StepGoes told may_leave faults precheck (Within x) k gs y v ok j hs z v
       call_half call next ok no_line s B p w a stood is fits =
           let lives = ap (λ (m : SystemState). state_of m x.txn) (sym stood.stands.at.system) ∙ fits.lives in
           let (to, half) = fallen_short told may_leave faults precheck s B p w gs y v stood a.client (Within x) x.txn lives t hs z (left.dead stood.stands.dead) left.others was left.left left.again in
@@ -154,7 +155,7 @@ module _ {V : Type 0} (told : V → Option Disk) (may_leave : V → Disk → Typ
           (fits.spot ∙ ap (at (IsWithin x.txn x.tries (map act_of x.commands.now) x.deadly fits.said)) more)
           (inl (asked_cut p w a (rest_of k) x call (behind_next k) more fits)) j same)
 
-      pub operate_half : (plan : Planned) (ok : Bool) → ok ≡ false → StepGoes told may_leave faults precheck (Calling x plan) k gs y v ok j hs z v
+      operate_half : (plan : Planned) (ok : Bool) → ok ≡ false → StepGoes told may_leave faults precheck (Calling x plan) k gs y v ok j hs z v
       operate_half plan ok no_line s B p w a stood is fits =
           let lives = ap (λ (m : SystemState). state_of m x.txn) (sym stood.stands.at.system) ∙ subst (λ n. state_of p.core.system n ≡ Some Live) fits.plan_is.txn fits.plan_is.rest.lives in
           let (to, half) = fallen_short told may_leave faults precheck s B p w gs y v stood a.client (Calling x plan) x.txn lives t hs z (left.dead stood.stands.dead) left.others was left.left left.again in
@@ -162,7 +163,7 @@ module _ {V : Type 0} (told : V → Option Disk) (may_leave : V → Disk → Typ
           (half_goes told may_leave faults precheck s B p w a gs y v k x (Calling x plan) is to hs z half fits.call fits.more x.tries (map act_of x.commands.now) fits.deadly false
           (fits.spot ∙ ap (at (IsWithin x.txn x.tries (map act_of x.commands.now) fits.deadly false)) fits.calls) (inl (called_cut p w a (rest_of k) x plan fits)) j same)
 
-      pub back_half : (plan : Planned) (why : Why) (ok : Bool) → ok ≡ false → StepGoes told may_leave faults precheck (TakingBack x plan why) k gs y v ok j hs z v
+      back_half : (plan : Planned) (why : Why) (ok : Bool) → ok ≡ false → StepGoes told may_leave faults precheck (TakingBack x plan why) k gs y v ok j hs z v
       back_half plan why ok no_line s B p w a stood is fits =
           let lives = ap (λ (m : SystemState). state_of m x.txn) (sym stood.stands.at.system) ∙ subst (λ n. state_of p.core.system n ≡ Some Live) fits.plan_is.txn fits.plan_is.rest.lives in
           let (to, half) = fallen_short told may_leave faults precheck s B p w gs y v stood a.client (TakingBack x plan why) x.txn lives t hs z (left.dead stood.stands.dead) left.others was left.left left.again in
@@ -198,7 +199,7 @@ module _ {V : Type 0} (told : V → Option Disk) (may_leave : V → Disk → Typ
 
 module _ {V : Type 0} (told : V → Option Disk) (may_leave : V → Disk → Type 0) (faults : V → ℕ) (precheck : Bool) (state : State) (k j : Client) (gs hs : List RegionState) (y z : SystemState) (v u : Vaulted V) (ok : Bool) (t : ℕ) (vault : u ≡ v) where
   -- in a run it has what it asks for
-  pub cleans_in : (MayStep told may_leave faults state k gs y v → IsDead (state_of y t)) → (MayClean gs y t → IsDead (state_of y t) → StepGoes told may_leave faults precheck state k gs y v ok j hs z v)
+  cleans_in : (MayStep told may_leave faults state k gs y v → IsDead (state_of y t)) → (MayClean gs y t → IsDead (state_of y t) → StepGoes told may_leave faults precheck state k gs y v ok j hs z v)
       → StepGoes told may_leave faults precheck state k gs y v ok j hs z u
   cleans_in dead goes =
       in_a_run told may_leave faults precheck k gs y v ok j hs z u state
@@ -211,3 +212,44 @@ module _ {V : Type 0} (told : V → Option Disk) (may_leave : V → Disk → Typ
       by_wants : (want_of plan ≡ Nothing) ⊎ ((r : ℕ) × (want_of plan ≡ Region r)) → IsDead (state_of y t)
       by_wants (inl none) = absurd (subst (λ m. IsRefusedIn m precheck plan gs y (Latch (DeadHolder t))) none refused)
       by_wants (inr (r, want)) = holder_is_dead told may_leave faults (TakingBack x plan why) k gs y v may precheck plan r t want refused
+
+-- ---- by what became of it
+module _ (t : ℕ) (x : Transaction) (state : State) (k j : Client) (gs hs : List RegionState) (y z : SystemState) where
+  pub clears_half : (r : Result Bool NoMemory) → IsErr r → (MayClean gs y t → IsDead (state_of y t) → (y.stop ≡ None) × IsLeftDead t gs y hs z) → j ≡ k → ClearsWay t x state k gs y r j hs z
+  clears_half (Ok went) err left same = absurd (cc)
+  clears_half (Err e) err left same = inl (left, same)
+
+  pub clears_silently : (r : Result Bool NoMemory) → IsErr r → (cause : Cause) → y.stop ≡ Some cause → (MayClean gs y t → IsLeftDead t gs y hs z) → Passes k (Within x) j → ClearsWay t x state k gs y r j hs z
+  clears_silently (Ok went) err cause stopped left passes = absurd (cc)
+  clears_silently (Err e) err cause stopped left passes = inr (cause, stopped, left, passes)
+
+module _ {V : Type 0} (told : V → Option Disk) (may_leave : V → Disk → Type 0) (faults : V → ℕ) (precheck : Bool) (k j : Client) (gs hs : List RegionState) (y z : SystemState) (v u : Vaulted V) (x : Transaction) (t : ℕ) (vault : u ≡ v) where
+  pub call_clears : (call : Call) (next : next_of k ≡ Some (IsCall call)) → (MayStep told may_leave faults (Within x) k gs y v → IsDead (state_of y t)) → (r : Result Bool NoMemory) → ClearsWay t x (Within x) k gs y r j hs z → StepGoes told may_leave faults precheck (Within x) k gs y v (is_ok r) j hs z u
+  call_clears call next dead (Ok went) (inl (runs, up, stays)) =
+      cleans_in told may_leave faults precheck (Within x) k j gs hs y z v u true t vault dead (λ clean was. call_again told may_leave faults precheck gs hs y z v k j x t was up call next stays)
+  call_clears call next dead (Ok went) (inr (cause, stopped, left, refuses)) =
+      cleans_in told may_leave faults precheck (Within x) k j gs hs y z v u true t vault dead (λ clean was. call_stopped told may_leave faults precheck gs hs y z v k j x t was (left clean) cause stopped call next refuses)
+  call_clears call next dead (Err e) (inl (left, same)) =
+      cleans_in told may_leave faults precheck (Within x) k j gs hs y z v u false t vault dead (λ clean was. call_half told may_leave faults precheck gs hs y z v k j x t was (left clean was).1 (ap (λ (n : Client). n.transcript) same) call next false refl)
+  call_clears call next dead (Err e) (inr (cause, stopped, left, passes)) =
+      cleans_in told may_leave faults precheck (Within x) k j gs hs y z v u false t vault dead (λ clean was. call_stopped_silently told may_leave faults precheck gs hs y z v k j x t was (left clean) cause stopped call next false refl passes.transcript)
+
+  pub operate_clears : (plan : Planned) → (MayStep told may_leave faults (Calling x plan) k gs y v → IsDead (state_of y t)) → (r : Result Bool NoMemory) → ClearsWay t x (Calling x plan) k gs y r j hs z → StepGoes told may_leave faults precheck (Calling x plan) k gs y v (is_ok r) j hs z u
+  operate_clears plan dead (Ok went) (inl (runs, up, stays)) =
+      cleans_in told may_leave faults precheck (Calling x plan) k j gs hs y z v u true t vault dead (λ clean was. operate_again told may_leave faults precheck gs hs y z v k j x t was up plan stays)
+  operate_clears plan dead (Ok went) (inr (cause, stopped, left, refuses)) =
+      cleans_in told may_leave faults precheck (Calling x plan) k j gs hs y z v u true t vault dead (λ clean was. operate_stopped told may_leave faults precheck gs hs y z v k j x t was (left clean) cause stopped plan refuses)
+  operate_clears plan dead (Err e) (inl (left, same)) =
+      cleans_in told may_leave faults precheck (Calling x plan) k j gs hs y z v u false t vault dead (λ clean was. operate_half told may_leave faults precheck gs hs y z v k j x t was (left clean was).1 (ap (λ (n : Client). n.transcript) same) plan false refl)
+  operate_clears plan dead (Err e) (inr (cause, stopped, left, passes)) =
+      cleans_in told may_leave faults precheck (Calling x plan) k j gs hs y z v u false t vault dead (λ clean was. operate_stopped_silently told may_leave faults precheck gs hs y z v k j x t was (left clean) cause stopped plan false refl passes)
+
+  pub back_clears : (plan : Planned) (why : Why) → (MayStep told may_leave faults (TakingBack x plan why) k gs y v → IsDead (state_of y t)) → (r : Result Bool NoMemory) → ClearsWay t x (TakingBack x plan why) k gs y r j hs z → StepGoes told may_leave faults precheck (TakingBack x plan why) k gs y v (is_ok r) j hs z u
+  back_clears plan why dead (Ok went) (inl (runs, up, stays)) =
+      cleans_in told may_leave faults precheck (TakingBack x plan why) k j gs hs y z v u true t vault dead (λ clean was. back_again told may_leave faults precheck gs hs y z v k j x t was up plan why stays)
+  back_clears plan why dead (Ok went) (inr (cause, stopped, left, refuses)) =
+      cleans_in told may_leave faults precheck (TakingBack x plan why) k j gs hs y z v u true t vault dead (λ clean was. back_stopped told may_leave faults precheck gs hs y z v k j x t was (left clean) cause stopped plan why refuses)
+  back_clears plan why dead (Err e) (inl (left, same)) =
+      cleans_in told may_leave faults precheck (TakingBack x plan why) k j gs hs y z v u false t vault dead (λ clean was. back_half told may_leave faults precheck gs hs y z v k j x t was (left clean was).1 (ap (λ (n : Client). n.transcript) same) plan why false refl)
+  back_clears plan why dead (Err e) (inr (cause, stopped, left, passes)) =
+      cleans_in told may_leave faults precheck (TakingBack x plan why) k j gs hs y z v u false t vault dead (λ clean was. back_stopped_silently told may_leave faults precheck gs hs y z v k j x t was (left clean) cause stopped plan why false refl passes.transcript)

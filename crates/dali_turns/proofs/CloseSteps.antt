@@ -1,6 +1,7 @@
 -- The ends of a transaction by their functions: an abort, the end of the block, and giving way.
-use Rattle.std.proofs.Common.{◌≡◌, ℕ, ◌+◌, ◌<◌, Bool, true, false, List, [], ◌∷◌, ◌++◌, map, drop, Option, Some, None, IfSome, refl, ap, sym, subst, ◌∙◌, arith}
+use Rattle.std.proofs.Common.{◌≡◌, ℕ, ◌+◌, ◌<◌, Bool, true, false, List, [], ◌∷◌, ◌++◌, map, drop, Option, Some, None, IfSome, Result, Ok, Err, OnOk, OnErr, is_ok, refl, ap, sym, subst, ◌∙◌, arith}
 use Rattle.std.proofs.lemmas.List.{map-append}
+use Rattle.dali_bytes.specs.declared.error.OutOfMemory.{OutOfMemory as NoMemory}
 use Rattle.dali_record.specs.declared.records.Record.{Record}
 use Rattle.dali_region.specs.State.{RegionState}
 use Rattle.dali_att.specs.declared.state.State.TheVariants.{Live}
@@ -74,7 +75,7 @@ module _ {V : Type 0} (told : V → Option Disk) (may_leave : V → Disk → Typ
 
     -- ---- an abort
     module _ (next : next_of k ≡ Some Abort) (away : y.stop ≡ None → IsTakenBack told may_leave faults x.txn gs y v hs z) (stays : StaysWhere gs y hs z) where
-      pub abort_goes : (left : Option Cause) → left ≡ y.stop → Finishes k Outside (abort_line left) j → StepGoes told may_leave faults precheck (Within x) k gs y v true j hs z u
+      abort_goes : (left : Option Cause) → left ≡ y.stop → Finishes k Outside (abort_line left) j → StepGoes told may_leave faults precheck (Within x) k gs y v true j hs z u
       abort_goes left known f s B p w a stood is fits = same_vault (by_stop y.stop refl)
         where
           lines : (o : Option Cause) → y.stop ≡ o → lines_of j ≡ lines_of k ++ said_of (abort_line o) ∷ []
@@ -91,7 +92,7 @@ module _ {V : Type 0} (told : V → Option Disk) (may_leave : V → Disk → Typ
               (abort_refused told may_leave faults precheck s B p w a gs y v k j x stood is fits cause e (behind_next k) (next_act k Abort next)
               (finished_client k j Outside (abort_line left) f) (lines (Some cause) e) (finished_rest k j Outside (abort_line left) f) f.stands)
 
-      pub abort_silent_goes : Passes k Outside j → StepGoes told may_leave faults precheck (Within x) k gs y v false j hs z u
+      abort_silent_goes : Passes k Outside j → StepGoes told may_leave faults precheck (Within x) k gs y v false j hs z u
       abort_silent_goes f s B p w a stood is fits = same_vault (by_stop y.stop refl)
         where
           by_stop : (o : Option Cause) → y.stop ≡ o → Went told may_leave faults precheck s B p w a (Within x) gs y v false j hs z v
@@ -100,6 +101,10 @@ module _ {V : Type 0} (told : V → Option Disk) (may_leave : V → Disk → Typ
               let made = whole s B p w a stood fits.lives t in
               aborted_unsaid told may_leave faults precheck s B p w a gs y v k j x stood is made.0 hs z fits e made.1 (gone_rows t) (behind_next k) (next_act k Abort next) f.transcript
           by_stop (Some cause) e = same_core (stays cause e) (abort_unsaid told may_leave faults precheck s B p w a gs y v k j x stood is fits cause e (behind_next k) (next_act k Abort next) f.transcript)
+
+      pub abort_closes : (left : Option Cause) → left ≡ y.stop → (r : Result Bool NoMemory) → OnOk r (Finishes k Outside (abort_line left) j) → OnErr r (Passes k Outside j) → StepGoes told may_leave faults precheck (Within x) k gs y v (is_ok r) j hs z u
+      abort_closes left known (Ok went) said silent = abort_goes left known said
+      abort_closes left known (Err e) said silent = abort_silent_goes silent
 
     pub abort_half_goes : next_of k ≡ Some Abort → IsHalfBack told may_leave faults x.txn gs y v hs z → j.transcript ≡ k.transcript → StepGoes told may_leave faults precheck (Within x) k gs y v false j hs z u
     abort_half_goes next t same s B p w a stood is fits =
@@ -111,7 +116,7 @@ module _ {V : Type 0} (told : V → Option Disk) (may_leave : V → Disk → Typ
       over : rest_of k ≡ []
       over = ap (map act_of) (none_of k.rest.now next)
 
-      pub end_goes : (left : Option Cause) → left ≡ y.stop → Finishes k Outside (end_line left) j → StepGoes told may_leave faults precheck (Within x) k gs y v true j hs z u
+      end_goes : (left : Option Cause) → left ≡ y.stop → Finishes k Outside (end_line left) j → StepGoes told may_leave faults precheck (Within x) k gs y v true j hs z u
       end_goes left known f s B p w a stood is fits = same_vault (by_stop y.stop refl)
         where
           lines : (o : Option Cause) → y.stop ≡ o → lines_of j ≡ lines_of k ++ said_of (end_line o) ∷ []
@@ -130,7 +135,7 @@ module _ {V : Type 0} (told : V → Option Disk) (may_leave : V → Disk → Typ
               same_core (stays cause e)
               (end_refused told may_leave faults precheck s B p w a gs y v k j x stood is fits cause e over (finished_client k j Outside (end_line left) f) (lines (Some cause) e) rest f.stands)
 
-      pub end_silent_goes : Passes k Outside j → StepGoes told may_leave faults precheck (Within x) k gs y v false j hs z u
+      end_silent_goes : Passes k Outside j → StepGoes told may_leave faults precheck (Within x) k gs y v false j hs z u
       end_silent_goes f s B p w a stood is fits = same_vault (by_stop y.stop refl)
         where
           by_stop : (o : Option Cause) → y.stop ≡ o → Went told may_leave faults precheck s B p w a (Within x) gs y v false j hs z v
@@ -139,6 +144,10 @@ module _ {V : Type 0} (told : V → Option Disk) (may_leave : V → Disk → Typ
               let made = whole s B p w a stood fits.lives t in
               ended_unsaid told may_leave faults precheck s B p w a gs y v k j x stood is made.0 hs z fits e made.1 (gone_rows t) over f.transcript
           by_stop (Some cause) e = same_core (stays cause e) (end_unsaid told may_leave faults precheck s B p w a gs y v k j x stood is fits cause e over f.transcript)
+
+      pub end_closes : (left : Option Cause) → left ≡ y.stop → (r : Result Bool NoMemory) → OnOk r (Finishes k Outside (end_line left) j) → OnErr r (Passes k Outside j) → StepGoes told may_leave faults precheck (Within x) k gs y v (is_ok r) j hs z u
+      end_closes left known (Ok went) said silent = end_goes left known said
+      end_closes left known (Err e) said silent = end_silent_goes silent
 
     pub end_half_goes : next_of k ≡ None → IsHalfBack told may_leave faults x.txn gs y v hs z → j.transcript ≡ k.transcript → StepGoes told may_leave faults precheck (Within x) k gs y v false j hs z u
     end_half_goes next t same s B p w a stood is fits =

@@ -1,5 +1,5 @@
 -- A crash inside the flush of a commit, and behind it.
-use Rattle.std.proofs.Common.{◌≡◌, ℕ, ◌+◌, ◌<◌, Bool, true, false, List, [], ◌++◌, Option, refl, ap, sym, subst, ◌∙◌, inl, inr, ⊎_elim, arith}
+use Rattle.std.proofs.Common.{◌≡◌, ℕ, ◌+◌, ◌<◌, Bool, true, false, List, [], ◌++◌, Option, refl, ap, sym, subst, ◌∙◌, ⊎_elim, arith}
 use Rattle.std.proofs.lemmas.List.{append-nil}
 use Rattle.dali_record.specs.declared.records.Record.{Record}
 use Rattle.dali_region.specs.State.{RegionState}
@@ -88,18 +88,7 @@ module _ {V : Type 0} (told : V → Option Disk) (may_leave : V → Disk → Typ
       extends l more = (more.0, more.1 ∙ ap (λ rs. s.log ++ rs) (sym log))
 
       first : (c : Disk) → LeavesInStep s p gs z c → LeavesUpTo s p gs x c
-      first c D = up_to s p went.to gs x c (course_log p went.to went.steps went.course) log_there (
-        D.0,
-        D.1,
-        record {
-          to = D.2.to;
-          steps = D.2.steps;
-          course = D.2.course;
-          log = ⊎_elim (λ kept. inl kept) (λ more. inr (extends D.2.to.log more)) D.2.log;
-          regions = D.2.regions;
-          right = D.2.right;
-        },
-      )
+      first c D = up_to s p went.to gs z x c (course_log p went.to went.steps went.course) log_there extends D
 
       fits_there : Fits told may_leave faults s went.batches went.to went.world hs z u went.standing (rest_of behind) behind.state
       fits_there = subst (λ (b : Bool). Came told may_leave faults b s went.batches went.to went.world hs z u went.standing behind) done went.came

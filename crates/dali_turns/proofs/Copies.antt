@@ -55,7 +55,7 @@ use Rattle.dali_turns.proofs.Doing.{Did, behind, ended, outside_by, went_on, wen
 use Rattle.dali_turns.proofs.Coursing.{did_course}
 use Rattle.dali_turns.proofs.Ending.{one_then}
 use Rattle.dali_turns.proofs.Finishing.{stop_point, finish_point, stops_there, stopped_at, finishes_there, finished_at, faulted_at, done_on}
-use Rattle.dali_turns.proofs.Starting.{making_on, under_then}
+use Rattle.dali_turns.proofs.Starting.{making_on, under_then, making_spot, making_placed}
 
 -- ---- a region whose flag is cleared keeps its hold
 
@@ -103,12 +103,6 @@ module _ {V : Type 0} (told : V → Option Disk) (may_leave : V → Disk → Typ
 
   at_next : slice_get gs c.copied ≡ Some g
   at_next = ap (slice_get gs) fits.copied ∙ there
-
-  starts : a.spot ≡ at (IsOutside false) (CheckpointAct ∷ fits.making.more)
-  starts = fits.making.spot ∙ ap (at (IsOutside false)) fits.making.makes
-
-  placed : IsPlaced false fits.making.more
-  placed = subst (IsPlaced false) fits.making.makes fits.making.placed
 
   -- behind a step by which the region is brought up to date
   module _ (x : StoreStep) (tells : AreOf w a.client p x []) (beside : (t : ℕ) → is_beside t x ≡ true) (out : (b : ℕ) → is_out_of b x ≡ true) (hs : List RegionState) (u : Vaulted V)
@@ -220,7 +214,7 @@ module _ {V : Type 0} (told : V → Option Disk) (may_leave : V → Disk → Typ
     own_is = ap (λ l. l ++ (number, Meets StoreFailed) ∷ (number, EndsCheckpoint) ∷ []) fits.making.pending
 
     pub copy_fails : j.transcript.client ≡ k.transcript.client → lines_of j ≡ lines_of k ++ Refused CheckpointAct StoreFailed ∷ [] → rest_of j ≡ fits.making.more → j.state ≡ Outside → Went told may_leave faults precheck s B p w a state gs y v true j gs z u
-    copy_fails = store_failed told may_leave faults precheck s B B p q w a state gs gs y z v u k j ds is failing (λ t none. none) stopped refl fits.making.more fits.making.since number number [] starts placed own_is tt (met_store w a.client number goes.to q refl)
+    copy_fails = store_failed told may_leave faults precheck s B B p q w a state gs gs y z v u k j ds is failing (λ t none. none) stopped refl fits.making.more fits.making.since number number [] (making_spot fits.making) (making_placed fits.making) own_is tt (met_store w a.client number goes.to q refl)
 
     pub copy_fails_silent : j.transcript ≡ k.transcript → Went told may_leave faults precheck s B p w a state gs y v false j gs z u
-    copy_fails_silent = store_failed_silent told may_leave faults precheck s B B p q w a state gs gs y z v u k j ds is failing (λ t none. none) stopped refl fits.making.more fits.making.since number number [] starts placed own_is tt (met_store w a.client number goes.to q refl)
+    copy_fails_silent = store_failed_silent told may_leave faults precheck s B B p q w a state gs gs y z v u k j ds is failing (λ t none. none) stopped refl fits.making.more fits.making.since number number [] (making_spot fits.making) (making_placed fits.making) own_is tt (met_store w a.client number goes.to q refl)

@@ -24,10 +24,6 @@ module _ {V : Type 0} (told : V → Option Disk) (may_leave : V → Disk → Typ
       (s : Start) (B : List (List Record)) (p : Point) (w : World) (a : Standing)
       → Stood told may_leave faults s B p w precheck gs y v → IsOf w a k → Fits told may_leave faults s B p w gs y v a (rest_of k) state → P
 
-  pub goes_from : (P : Type 0) (ok : Bool) (j : Client) (hs : List RegionState) (z : SystemState) (u : Vaulted V) → Always P
-      → (P → StepGoes told may_leave faults precheck state k gs y v ok j hs z u) → StepGoes told may_leave faults precheck state k gs y v ok j hs z u
-  goes_from P ok j hs z u always goes s B p w a stood of fits = goes (always s B p w a stood of fits) s B p w a stood of fits
-
   -- no run comes to this exit
   pub never_goes : (P : Type 0) (ok : Bool) (j : Client) (hs : List RegionState) (z : SystemState) (u : Vaulted V) → Always P → (P → ⊥) → StepGoes told may_leave faults precheck state k gs y v ok j hs z u
   never_goes P ok j hs z u always never s B p w a stood of fits = absurd (never (always s B p w a stood of fits))
@@ -36,8 +32,12 @@ module _ {V : Type 0} (told : V → Option Disk) (may_leave : V → Disk → Typ
   vault_small s B p w a stood of fits = places_are_small told may_leave faults s B p v stood.stands.at.vault
 
   -- the vault that stopped before has stopped the engine
-  pub still_runs : y.stop ≡ None → Always (v.stopped ≡ false)
+  still_runs : y.stop ≡ None → Always (v.stopped ≡ false)
   still_runs stop s B p w a stood of fits = vault_runs v.stopped (is_some y.stop) stood.stops (ap is_some stop)
+
+  pub goes_running : y.stop ≡ None → (ok : Bool) (j : Client) (hs : List RegionState) (z : SystemState) (u : Vaulted V)
+      → (v.stopped ≡ false → StepGoes told may_leave faults precheck state k gs y v ok j hs z u) → StepGoes told may_leave faults precheck state k gs y v ok j hs z u
+  goes_running stop ok j hs z u goes s B p w a stood of fits = goes (still_runs stop s B p w a stood of fits) s B p w a stood of fits
 
   pub both : (P Q : Type 0) → Always P → Always Q → Always (P × Q)
   both P Q left right s B p w a stood of fits = (left s B p w a stood of fits, right s B p w a stood of fits)

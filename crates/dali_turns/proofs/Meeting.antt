@@ -1,5 +1,5 @@
 -- A refusal has one cause, and no step is made beside it.
-use Rattle.std.proofs.Common.{◌≡◌, ℕ, ◌+◌, ◌≤◌, Bool, true, false, not, List, Option, Some, None, IsSomeAnd, Result, Ok, Err, IsErr, OnOk, ap, sym, subst, ◌∙◌, inl, inr, arith}
+use Rattle.std.proofs.Common.{◌≡◌, ℕ, ◌+◌, ◌≤◌, Bool, true, false, not, List, Option, Some, None, IsSomeAnd, Result, Ok, Err, IsErr, OnOk, refl, ap, sym, subst, ◌∙◌, inl, inr, arith}
 use Rattle.std.specs.Prelude.{◌&&◌, slice_get}
 use Rattle.dali_bytes.specs.declared.error.OutOfMemory.{OutOfMemory as NoMemory}
 use Rattle.dali_record.specs.declared.operations.Op.{Op}
@@ -30,9 +30,11 @@ use Rattle.dali_stepwise.specs.Stepwise.{OneFurther, IsDeath}
 use Rattle.dali_clients.specs.declared.line.Why.{Why}
 use Rattle.dali_clients.specs.declared.line.Why.TheVariants.{Stopped as IsStopped, LogFull as IsFull, Damaged as IsDamaged}
 use Rattle.dali_turns.specs.declared.client.Client.{Client}
+use Rattle.dali_turns.specs.declared.client.State.{State}
 use Rattle.dali_turns.specs.declared.client.Transaction.{Transaction}
 use Rattle.dali_turns.specs.Calls.{TurnsBack, IsRefusedBy}
 use Rattle.dali_turns.specs.Clients.{RefusesCall}
+use Rattle.dali_turns.specs.Ends.{ClearsWay}
 use Rattle.dali_turns.specs.Refuses.{TurnsNow, SaysCall, IsHeld, IsMet, IsMetBack}
 use Rattle.dali_turns.specs.Whys.{why_in}
 use Rattle.dali_turns.proofs.Reasons.{RoomSays, StopSays, room_cases, stop_cases}
@@ -206,6 +208,11 @@ module _ (stop : Option Cause) (k j : Client) (x : Transaction) (plan : Planned)
       let both : Some met ≡ Some cause = sym is ∙ up in
       let same : met ≡ cause = cc in
       subst (λ w. SaysCall k x w j) (told ∙ ap IsStopped same) (says_call why h)
+
+  pub held_cleared : (t : ℕ) (state : State) (gs hs : List RegionState) (y z : SystemState) → y.stop ≡ stop → (r : Result Bool NoMemory) → ClearsWay t x state k gs y r j hs z → OnOk r (IsHeld stop k x j)
+  held_cleared t state gs hs y z now (Ok went) (inl (runs, up, stays)) = held_not (sym now ∙ runs)
+  held_cleared t state gs hs y z now (Ok went) (inr (cause, stopped, left, refuses)) = held_by cause (IsStopped cause) refl (sym now ∙ stopped) refuses
+  held_cleared t state gs hs y z now (Err e) cleared = tt
 
   by_why : (s : SystemError) (why : Why) → why_in s ≡ Some why → RefusesCall k x why j → IsMetBack (System s) stop k x j
   by_why (Stopped cause) why e h = let same : IsStopped cause ≡ why = cc in subst (λ w. SaysCall k x w j) (sym same) (says_call why h)

@@ -1,6 +1,7 @@
 -- What a crash at any moment of a step leaves restarts right.
-use Rattle.std.proofs.Common.{◌≡◌, ℕ, Bool, List, [], ◌∷◌, ◌++◌, map, Option, IfSome, refl, ap, sym, subst, ◌∙◌, inl, inr, ⊎_elim, append_assoc}
+use Rattle.std.proofs.Common.{◌≡◌, ℕ, Bool, List, [], ◌∷◌, ◌++◌, map, Option, Result, IfSome, refl, ap, sym, subst, ◌∙◌, inl, inr, ⊎_elim, append_assoc}
 use Rattle.std.proofs.lemmas.List.{append-nil}
+use Rattle.dali_bytes.specs.declared.error.OutOfMemory.{OutOfMemory as NoMemory}
 use Rattle.dali_record.specs.declared.records.Record.{Record}
 use Rattle.dali_record.specs.Files.{Files}
 use Rattle.dali_region.specs.State.{RegionState}
@@ -24,6 +25,7 @@ use Rattle.dali_turns.specs.declared.client.State.{State}
 use Rattle.dali_turns.specs.Fits.{rest_of, Fits}
 use Rattle.dali_turns.specs.Goes.{StepGoes}
 use Rattle.dali_turns.specs.Moments.{Extends, IsRightIn, LeavesInStep, LeavesUpTo, StepLeavesRight, TurnLeavesRight}
+use Rattle.dali_turns.specs.Made.{MakesStep}
 use Rattle.dali_turns.proofs.Turning.{LooksSame, is_same, fits_same}
 use Rattle.dali_turns.proofs.Stepping.{TellsSame, is_told}
 
@@ -48,16 +50,17 @@ pub crash_right : {V : Type 0} (told : V → Option Disk) (may_leave : V → Dis
     → StandsAt told may_leave faults s B p gs y v → IfSome (told v.store) (λ _. AllSpell (may_leave v.store) (LeavesRightAt s p))
 crash_right told may_leave faults s B p gs y v stands = crash_is_right told may_leave faults s B p v stands.at.vault
 
--- where the step has come to a point with the log of this core
-pub up_to : (s : Start) (p q : Point) (gs : List RegionState) (z : SystemState) (c : Disk) → ((more : List Record) × (p.log ++ more ≡ q.log)) → q.log ≡ log_after s.log z → LeavesInStep s p gs z c → LeavesUpTo s p gs z c
-up_to s p q gs z c on log D = (
+-- where the step has come to a point with the log of the core x, which tells what the core z does or more
+pub up_to : (s : Start) (p q : Point) (gs : List RegionState) (z x : SystemState) (c : Disk) → ((more : List Record) × (p.log ++ more ≡ q.log)) → q.log ≡ log_after s.log x → ((l : List Record) → Extends s z l → Extends s x l)
+    → LeavesInStep s p gs z c → LeavesUpTo s p gs x c
+up_to s p q gs z x c on log extends D = (
   D.0,
   D.1,
   record {
     to = D.2.to;
     steps = D.2.steps;
     course = D.2.course;
-    log = ⊎_elim (λ still. subst (λ (l : List Record). Extends s z l) (sym still) (on.0, on.1 ∙ log)) (λ more. more) D.2.log;
+    log = ⊎_elim (λ still. subst (λ (l : List Record). Extends s x l) (sym still) (on.0, on.1 ∙ log)) (extends D.2.to.log) D.2.log;
     regions = D.2.regions;
     right = D.2.right;
   },
@@ -114,11 +117,12 @@ module _ {V : Type 0} (told : V → Option Disk) (may_leave : V → Disk → Typ
       (subst (λ l. Fits told may_leave faults s B p w gs y v a l state) (sym (ap (map act_of) same.rest)) (subst (λ (st : State). Fits told may_leave faults s B p w gs y v a (rest_of k) st) e fits))
 
   -- nothing has changed before
-  pub leaves_from : {C : Type 0} (j k : Client) (new old : C) (regions : C → List RegionState) (system : C → SystemState) (vault : C → Vaulted V) (z : SystemState) (u : Vaulted V) → j ≡ k → new ≡ old
-      → StepLeavesRight told may_leave faults moment left_since j.state j (regions new) (system new) (vault new) z u → StepLeavesRight told may_leave faults moment left_since k.state k (regions old) (system old) (vault old) z u
-  leaves_from {C} j k new old regions system vault z u client core leaves =
-      subst (λ (c : C). StepLeavesRight told may_leave faults moment left_since k.state k (regions c) (system c) (vault c) z u) core
-      (subst (λ (x : Client). StepLeavesRight told may_leave faults moment left_since x.state x (regions new) (system new) (vault new) z u) client leaves)
+  pub makes_from :
+      {C : Type 0} (precheck : Bool) (j k : Client) (new old : C) (regions : C → List RegionState) (system : C → SystemState) (vault : C → Vaulted V) (r : Result Bool NoMemory) (n : Client) (hs : List RegionState) (z : SystemState) (u : Vaulted V) → j ≡ k → new ≡ old
+      → MakesStep told may_leave faults moment left_since precheck j.state j (regions new) (system new) (vault new) r n hs z u → MakesStep told may_leave faults moment left_since precheck k.state k (regions old) (system old) (vault old) r n hs z u
+  makes_from {C} precheck j k new old regions system vault r n hs z u client core makes =
+      subst (λ (c : C). MakesStep told may_leave faults moment left_since precheck k.state k (regions c) (system c) (vault c) r n hs z u) core
+      (subst (λ (x : Client). MakesStep told may_leave faults moment left_since precheck x.state x (regions new) (system new) (vault new) r n hs z u) client makes)
 
   -- the receipts stood apart during the step
   pub turn_leaves : (precheck ok : Bool) (gs hs : List RegionState) (y z : SystemState) (v u : Vaulted V) (k before behind : Client) → LooksSame k before
@@ -130,5 +134,5 @@ module _ {V : Type 0} (told : V → Option Disk) (may_leave : V → Disk → Typ
       let went = goes s B p w a stood is_before fits_before in
       let on = course_log p went.to went.steps went.course in
       each_told (told v.store) _ (λ e. leaves_more moment left_since v.store u.store (LeavesInStep s p gs z) (LeavesUpTo s p gs z)
-      (λ c D. up_to s p went.to gs z c on (went.stood.stands.at.vault.run.run.log ∙ ap (log_after s.log) went.stood.stands.at.system) D)
+      (λ c D. up_to s p went.to gs z z c on (went.stood.stands.at.vault.run.run.log ∙ ap (log_after s.log) went.stood.stands.at.system) (λ l more. more) D)
       (there (told v.store) _ e (leaves precheck s B p w a stood is_before fits_before)))

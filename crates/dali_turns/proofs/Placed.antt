@@ -1,9 +1,10 @@
 -- What becomes of the places in image files, whatever log the core has.
-use Rattle.std.proofs.Common.{◌≡◌, Bool, true, false, List, Option, Some, None, is_some, IfSome, Result, Ok, Err, refl, ap, sym, subst, ◌∙◌, arith}
+use Rattle.std.proofs.Common.{◌≡◌, ℕ, Bool, true, false, List, Option, Some, None, is_some, IfSome, Result, Ok, Err, refl, ap, sym, subst, ◌∙◌, inl, inr, arith}
 use Rattle.std.specs.Prelude.{if◌then◌else◌}
 use Rattle.dali_bytes.specs.declared.error.OutOfMemory.{OutOfMemory as NoMemory}
 use Rattle.dali_region.specs.State.{RegionState}
 use Rattle.dali_store.specs.Store.{Files as Disk}
+use Rattle.dali_system.specs.State.{SystemState}
 use Rattle.dali_vault.specs.Vaulted.{Vaulted}
 use Rattle.dali_core.specs.declared.error.SystemError.{SystemError}
 use Rattle.dali_core.specs.declared.error.SystemError.TheVariants.{Stopped, LogFull, OutOfMemory}
@@ -23,6 +24,7 @@ use Rattle.dali_transcripts.specs.Words.{closes}
 use Rattle.dali_calls.proofs.Flags.{flags_equal}
 use Rattle.dali_turns.specs.Clients.{next_of, RefusesCall, Stays, Passes, left_behind}
 use Rattle.dali_turns.specs.Calls.{IsRefusedBy}
+use Rattle.dali_turns.specs.Ends.{ClearsWay}
 use Rattle.dali_turns.specs.Places.{ReachesNext, HasPlaces, KeepsRegions, PlacesGo}
 
 pub as_long : (o : Option Disk) → NoShorter o o
@@ -115,6 +117,12 @@ module _ {V : Type 0} (told : V → Option Disk) where
   refused_reaches gs hs (Stopped cause) k x plan (Err e) j u stands next h = at_state gs hs j.state (Within x) u h.2.stands tt
   refused_reaches gs hs OutOfMemory k x plan (Ok b) j u stands next h = absurd h.1
   refused_reaches gs hs OutOfMemory k x plan (Err e) j u stands next h = at_state gs hs j.state Outside u (ap (λ (l : Client). l.state) h.0 ∙ stands) tt
+
+  pub cleared_reaches : (gs hs : List RegionState) (t : ℕ) (x : Transaction) (state : State) (k j : Client) (y z : SystemState) (u : Vaulted V) → k.state ≡ Outside → is_some (next_of k) ≡ true → Suits told state gs hs u → (r : Result Bool NoMemory) → ClearsWay t x state k gs y r j hs z → Suits told j.state gs hs u
+  cleared_reaches gs hs t x state k j y z u stands next suits (Ok went) (inl (runs, up, stays)) = at_state gs hs j.state state u stays.stands suits
+  cleared_reaches gs hs t x state k j y z u stands next suits (Ok went) (inr (cause, stopped, left, refuses)) = at_state gs hs j.state (Within x) u (call_refused k x (IsStopped cause) j next refuses) tt
+  cleared_reaches gs hs t x state k j y z u stands next suits (Err e) (inl (left, same)) = at_state gs hs j.state Outside u (ap (λ (l : Client). l.state) same ∙ stands) tt
+  cleared_reaches gs hs t x state k j y z u stands next suits (Err e) (inr (cause, stopped, left, passes)) = at_state gs hs j.state (Within x) u passes.stands tt
 
   pub left_reaches : (gs hs : List RegionState) (k j : Client) (r : Result Bool NoMemory) (u : Vaulted V) → (next_of k ≡ None → (r ≡ Ok false) × Stays k LeftOut j) → ((command : Command) → next_of k ≡ Some command → (r ≡ Ok true) × Passes k (left_behind command) j) → Suits told j.state gs hs u
   left_reaches gs hs k j r u done passed = by_next (next_of k) refl

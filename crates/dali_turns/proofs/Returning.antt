@@ -12,14 +12,14 @@ use Rattle.dali_record.specs.declared.operations.Undo.TheVariants.{ReviveEntry}
 use Rattle.dali_record.specs.declared.records.Answer.{Answer}
 use Rattle.dali_record.specs.declared.records.Answer.TheVariants.{Odd}
 use Rattle.dali_record.specs.declared.records.Call.{Call}
-use Rattle.dali_record.specs.declared.records.Call.TheVariants.{Insert, Update, Delete, Get}
+use Rattle.dali_record.specs.declared.records.Call.TheVariants.{Update, Delete, Get}
 use Rattle.dali_record.specs.declared.records.Record.TheVariants.{Forward, Back}
 use Rattle.dali_record.specs.Legal.{is_none_left}
 use Rattle.dali_record.specs.Log.{drop_last}
 use Rattle.dali_calls.specs.declared.plan.Phase.{Phase}
 use Rattle.dali_calls.specs.declared.plan.Phase.TheVariants.{Calling}
 use Rattle.dali_calls.specs.declared.stage.Stage.{Stage}
-use Rattle.dali_calls.specs.declared.stage.Stage.TheVariants.{Fresh, Walking, Nowhere, Somewhere, Storing, Adding, Removing, Finished}
+use Rattle.dali_calls.specs.declared.stage.Stage.TheVariants.{Somewhere, Finished}
 use Rattle.dali_calls.specs.Steps.{next_op, answer_of, in_cell}
 use Rattle.dali_calls.specs.Plans.{goes_back, is_back_in}
 use Rattle.dali_transcripts.specs.World.{Logs, World}
@@ -87,20 +87,11 @@ in_cell_unanswered s call place true x e = refl
 in_cell_unanswered s call place false x e = absurd (cc)
 
 pub unanswered : (s : Sizes) (t : ℕ) (call : Call) (stage : Stage) (x : ℕ × Op) → next_op s t call stage ≡ Some x → goes_back (answer_of s call stage) ≡ false
-unanswered s t call Fresh x e = refl
-unanswered s t call (Walking region looked) x e = refl
-unanswered s t (Insert key v) Nowhere x e = refl
-unanswered s t (Update key v) Nowhere x e = refl
-unanswered s t (Delete key) Nowhere x e = refl
-unanswered s t (Get key) Nowhere x e = refl
-unanswered s t (Insert key v) (Somewhere region entry place) x e = refl
 unanswered s t (Update key v) (Somewhere region entry place) x e = in_cell_unanswered s (Update key v) place (is_place s place) x e
 unanswered s t (Delete key) (Somewhere region entry place) x e = in_cell_unanswered s (Delete key) place (is_place s place) x e
 unanswered s t (Get key) (Somewhere region entry place) x e = in_cell_unanswered s (Get key) place (is_place s place) x e
-unanswered s t call (Storing region tried) x e = refl
-unanswered s t call (Adding place region tried) x e = refl
-unanswered s t call (Removing region entry place) x e = refl
 unanswered s t call (Finished answer) x e = absurd (cc)
+unanswered s t _ _ x e = refl
 
 -- ---- behind an operation, or one that is taken back
 pub turned_forward : (b b' : Bool) (t n : ℕ) (xs : List Receipt) (x : Block) → b ≡ false → HasTurned b t xs → HasTurned b' t (xs ++ (n, Logs (Forward t x)) ∷ [])

@@ -76,17 +76,17 @@ module _ {V : Type 0} (told : V → Option Disk) (may_leave : V → Disk → Typ
       (ap (λ (m : Client). m.transcript) now) (ap rest_of now) (ap (λ (m : Client). m.state) now ∙ ap (λ (m : Checkpointed). Certifying m audit 0) is))
 
   -- ---- the store fails
-  module _ (e : CheckpointError) (is : e ≡ Fault) (x z : SystemState) (u : Vaulted V) (took : x ≡ store_stopped (taken y)) (ends : z ≡ given_up c.faulted x)
-      (said : FailsToWrite told may_leave faults y v (image_name (side_in c)) (place_of c.copied) (length c.table) u) (longer : IsNoShorter told v u) where
+  module _ (e : CheckpointError) (x z : SystemState) (u : Vaulted V)
+      (said : (e ≡ Fault) × (x ≡ store_stopped (taken y)) × FailsToWrite told may_leave faults y v (image_name (side_in c)) (place_of c.copied) (length c.table) u) (ends : z ≡ given_up c.faulted x) (longer : IsNoShorter told v u) where
     to_end : (ok : Bool) (s : Start) (B : List (List Record)) (p : Point) (w : World) (a : Standing) → c.faulted ≡ false
         → Went told may_leave faults precheck s B p w a (Copying c next) gs y v ok j gs (in_checkpoint (store_stopped (taken y)) false) u → Went told may_leave faults precheck s B p w a (Copying c next) gs y v ok j gs z u
-    to_end ok s B p w a sound went = subst (λ (m : SystemState). Went told may_leave faults precheck s B p w a (Copying c next) gs y v ok j gs m u) (sym (ends ∙ (ap (λ (b : Bool). given_up b x) sound ∙ ap (λ (m : SystemState). in_checkpoint m false) took))) went
+    to_end ok s B p w a sound went = subst (λ (m : SystemState). Went told may_leave faults precheck s B p w a (Copying c next) gs y v ok j gs m u) (sym (ends ∙ (ap (λ (b : Bool). given_up b x) sound ∙ ap (λ (m : SystemState). in_checkpoint m false) said.1))) went
 
     pub settle_fails_goes : SaysEnd k (Err e) j → StepGoes told may_leave faults precheck (Copying c next) k gs y v true j gs z u
-    settle_fails_goes (line, given, f) = by_fault said
+    settle_fails_goes (line, given, f) = by_fault said.2
       where
         g : Finishes k Outside (IsRefused IsCheckpoint StoreStopped) j
-        g = subst (λ l. Finishes k Outside l j) (same_Some line (IsRefused IsCheckpoint StoreStopped) (sym given ∙ ap (λ (m : CheckpointError). line_in (Err m)) is)) f
+        g = subst (λ l. Finishes k Outside l j) (same_Some line (IsRefused IsCheckpoint StoreStopped) (sym given ∙ ap (λ (m : CheckpointError). line_in (Err m)) said.0)) f
 
         by_fault : FailsToWrite told may_leave faults y v (image_name (side_in c)) (place_of c.copied) (length c.table) u → StepGoes told may_leave faults precheck (Copying c next) k gs y v true j gs z u
         by_fault (inl h) s B p w a stood of fits = to_end true s B p w a fits.sound (flush_fails_settle told may_leave faults precheck s B p w a gs y v k j stood of c next fits (runs_here s B p w stood) u longer h
@@ -95,8 +95,8 @@ module _ {V : Type 0} (told : V → Option Disk) (may_leave : V → Disk → Typ
             (finished_client k j Outside _ g) (finished_lines k j Outside _ g) (finished_rest k j Outside _ g ∙ behind_is k fits.making.more CheckpointAct fits.making.makes) g.stands)
 
     settle_fails_silent_there : Unsaid k (Err e) j → StepGoes told may_leave faults precheck (Copying c next) k gs y v false j gs z u
-    settle_fails_silent_there (inl (none, is_same)) = let never : Some (IsRefused IsCheckpoint StoreStopped) ≡ None = ap (λ (m : CheckpointError). line_in (Err m)) (sym is) ∙ none in absurd (cc)
-    settle_fails_silent_there (inr (line, given, f)) = by_fault said
+    settle_fails_silent_there (inl (none, is_same)) = let never : Some (IsRefused IsCheckpoint StoreStopped) ≡ None = ap (λ (m : CheckpointError). line_in (Err m)) (sym said.0) ∙ none in absurd (cc)
+    settle_fails_silent_there (inr (line, given, f)) = by_fault said.2
       where
         by_fault : FailsToWrite told may_leave faults y v (image_name (side_in c)) (place_of c.copied) (length c.table) u → StepGoes told may_leave faults precheck (Copying c next) k gs y v false j gs z u
         by_fault (inl h) s B p w a stood of fits = to_end false s B p w a fits.sound (flush_fails_silent told may_leave faults precheck s B p w a gs y v k j stood of c next fits (runs_here s B p w stood) u longer h f.transcript)

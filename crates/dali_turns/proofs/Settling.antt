@@ -53,7 +53,7 @@ use Rattle.dali_turns.proofs.Beside.{step_image}
 use Rattle.dali_turns.proofs.Doing.{Did, did_then, did_went, behind, so_far, went_on}
 use Rattle.dali_turns.proofs.Coursing.{did_course}
 use Rattle.dali_turns.proofs.Finishing.{Refusal, refusal_full, given_up, given_up_silent, given_up_none, stop_point, finish_point, stops_there, stopped_at, finishes_there, finished_at, faulted_at}
-use Rattle.dali_turns.proofs.Starting.{under_then}
+use Rattle.dali_turns.proofs.Starting.{under_then, making_spot, making_placed}
 use Rattle.dali_turns.proofs.Copies.{store_failed, store_failed_silent, met_store}
 
 -- rows are left
@@ -72,12 +72,6 @@ module _ {V : Type 0} (told : V → Option Disk) (may_leave : V → Disk → Typ
 
   copying : IsCopying told may_leave faults s B p gs y v c fits.head
   copying = fits.copying runs
-
-  starts : a.spot ≡ at (IsOutside false) (CheckpointAct ∷ fits.making.more)
-  starts = fits.making.spot ∙ ap (at (IsOutside false)) fits.making.makes
-
-  placed : IsPlaced false fits.making.more
-  placed = subst (IsPlaced false) fits.making.makes fits.making.placed
 
   set : y.checking ≡ true
   set = ap (λ (x : SystemState). x.checking) (sym stood.stands.at.system) ∙ fits.making.flag
@@ -237,10 +231,10 @@ module _ {V : Type 0} (told : V → Option Disk) (may_leave : V → Disk → Typ
           (λ e. has_stop y.stop) (λ t lives other. refl) (λ b other. refl) (λ flag other. absurd (other tt))
 
       pub flush_fails_settle : j.transcript.client ≡ k.transcript.client → lines_of j ≡ lines_of k ++ Refused CheckpointAct StoreFailed ∷ [] → rest_of j ≡ fits.making.more → j.state ≡ Outside → Went told may_leave faults precheck s B p w a state gs y v true j gs z u
-      flush_fails_settle = store_failed told may_leave faults precheck s B B p flush_q w a state gs gs y z v u k j ds is flush_failing (λ t none. none) flush_stopped refl fits.making.more fits.making.since number number [] starts placed own_is tt (met_store w a.client number flush_f.to flush_q refl)
+      flush_fails_settle = store_failed told may_leave faults precheck s B B p flush_q w a state gs gs y z v u k j ds is flush_failing (λ t none. none) flush_stopped refl fits.making.more fits.making.since number number [] (making_spot fits.making) (making_placed fits.making) own_is tt (met_store w a.client number flush_f.to flush_q refl)
 
       pub flush_fails_silent : j.transcript ≡ k.transcript → Went told may_leave faults precheck s B p w a state gs y v false j gs z u
-      flush_fails_silent = store_failed_silent told may_leave faults precheck s B B p flush_q w a state gs gs y z v u k j ds is flush_failing (λ t none. none) flush_stopped refl fits.making.more fits.making.since number number [] starts placed own_is tt (met_store w a.client number flush_f.to flush_q refl)
+      flush_fails_silent = store_failed_silent told may_leave faults precheck s B B p flush_q w a state gs gs y z v u k j ds is flush_failing (λ t none. none) flush_stopped refl fits.making.more fits.making.since number number [] (making_spot fits.making) (making_placed fits.making) own_is tt (met_store w a.client number flush_f.to flush_q refl)
 
     -- in the table's write
     module _ (at_place n : ℕ) (said : WriteFails told may_leave faults y v (image_name (side_in c)) at_place n u) where
@@ -321,7 +315,7 @@ module _ {V : Type 0} (told : V → Option Disk) (may_leave : V → Disk → Typ
           (λ e. has_stop y.stop) (λ t lives other. refl) (λ b other. refl) (λ flag other. absurd (other tt))
 
       pub table_fails_settle : j.transcript.client ≡ k.transcript.client → lines_of j ≡ lines_of k ++ Refused CheckpointAct StoreFailed ∷ [] → rest_of j ≡ fits.making.more → j.state ≡ Outside → Went told may_leave faults precheck s B p w a state gs y v true j gs z u
-      table_fails_settle = store_failed told may_leave faults precheck s B table_f.batches p table_q w a state gs gs y z v u k j ds is table_failing (λ t none. none) table_stopped refl fits.making.more fits.making.since number number [] starts placed own_is tt (met_store w a.client number table_goes.to table_q refl)
+      table_fails_settle = store_failed told may_leave faults precheck s B table_f.batches p table_q w a state gs gs y z v u k j ds is table_failing (λ t none. none) table_stopped refl fits.making.more fits.making.since number number [] (making_spot fits.making) (making_placed fits.making) own_is tt (met_store w a.client number table_goes.to table_q refl)
 
       pub table_fails_silent : j.transcript ≡ k.transcript → Went told may_leave faults precheck s B p w a state gs y v false j gs z u
-      table_fails_silent = store_failed_silent told may_leave faults precheck s B table_f.batches p table_q w a state gs gs y z v u k j ds is table_failing (λ t none. none) table_stopped refl fits.making.more fits.making.since number number [] starts placed own_is tt (met_store w a.client number table_goes.to table_q refl)
+      table_fails_silent = store_failed_silent told may_leave faults precheck s B table_f.batches p table_q w a state gs gs y z v u k j ds is table_failing (λ t none. none) table_stopped refl fits.making.more fits.making.since number number [] (making_spot fits.making) (making_placed fits.making) own_is tt (met_store w a.client number table_goes.to table_q refl)

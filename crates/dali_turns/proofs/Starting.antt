@@ -48,6 +48,14 @@ use Rattle.dali_turns.proofs.Spans.{none_under_way}
 pub under_then : (w : World) (c : ℕ) (ds : List Deed) (d : CoreState) → under_way (after w c ds d).happened ≡ fold span_step (under_way w.happened) (by c ds)
 under_then w c ds d = fold-append span_step None w.happened (by c ds)
 
+-- where a client stands that makes one, with the commands behind it
+module _ {p : Point} {w : World} {a : Standing} {rest : List Act} {own : List Receipt} (m : IsMaking p w a rest own) where
+  pub making_spot : a.spot ≡ at (IsOutside false) (CheckpointAct ∷ m.more)
+  making_spot = m.spot ∙ ap (at (IsOutside false)) m.makes
+
+  pub making_placed : IsPlaced false m.more
+  making_placed = subst (IsPlaced false) m.makes m.placed
+
 -- a checkpoint is made still behind a step that tells no deed
 pub making_on : (p q : Point) (w : World) (a : Standing) (acts rest : List Act) (own : List Receipt) → IsMaking p w a acts own → rest ≡ acts → q.core.system.checking ≡ true → IsMaking q (after w a.client [] q.core) (behind a w []) rest own
 making_on p q w a acts rest own m same flag = record {

@@ -25,10 +25,10 @@ use Rattle.dali_checkpoint.proofs.Calls.{settled_flushed, SettledFlushed, certif
 use Rattle.dali_checkpoint.proofs.Lengths.{places_stay}
 use Rattle.dali_transcripts.specs.Words.{Checkpoints as CheckpointAct, StoreFailed, CheckpointFailed, Refused}
 use Rattle.dali_transcripts.specs.World.{Deed, Logs, Meets, StartsCheckpoint, EndsCheckpoint, World, log_of, IsLost, under_way}
-use Rattle.dali_transcripts.specs.Moves.{Receipt, Outside as IsOutside, at, Move, FailsCheckpoint, spanned, own}
+use Rattle.dali_transcripts.specs.Moves.{Receipt, Move, FailsCheckpoint, spanned, own}
 use Rattle.dali_transcripts.specs.Causes.{IsCutAudit, MetCause}
 use Rattle.dali_transcripts.specs.Laws.{receipts_from}
-use Rattle.dali_transcripts.specs.Rounds.{Standing, IsPlaced}
+use Rattle.dali_transcripts.specs.Rounds.{Standing}
 use Rattle.dali_deeds.specs.Tells.{after}
 use Rattle.dali_deeds.specs.Laws.{AreOfCourse}
 use Rattle.dali_turns.specs.declared.client.Client.{Client}
@@ -45,7 +45,7 @@ use Rattle.dali_turns.proofs.Doing.{Did, did_then, ended, outside_by, went_by, w
 use Rattle.dali_turns.proofs.Coursing.{did_course}
 use Rattle.dali_turns.proofs.Ending.{ended_point, one_then, flushed_within, same_stable}
 use Rattle.dali_turns.proofs.Finishing.{stop_point, finish_point, stops_there, stopped_at, finishes_there, finished_at, faulted_at}
-use Rattle.dali_turns.proofs.Starting.{under_then}
+use Rattle.dali_turns.proofs.Starting.{under_then, making_spot, making_placed}
 use Rattle.dali_turns.proofs.Copies.{store_failed, store_failed_silent, met_store}
 use Rattle.dali_turns.proofs.Settling.{quiet_failed}
 use Rattle.dali_turns.proofs.Certified as its
@@ -96,12 +96,6 @@ module _ {V : Type 0} (told : V → Option Disk) (may_leave : V → Disk → Typ
   set : z.checking ≡ true
   set = its.set_there told may_leave faults precheck s B p w a gs y v k j stood is c audit next fits all runs
 
-  starts : a.spot ≡ at (IsOutside false) (CheckpointAct ∷ fits.making.more)
-  starts = fits.making.spot ∙ ap (at (IsOutside false)) fits.making.makes
-
-  placed : IsPlaced false fits.making.more
-  placed = subst (IsPlaced false) fits.making.makes fits.making.placed
-
   -- ---- it failed, and that is flushed
   module _ (r : ℕ) (rs : List ℕ) (bad : found ≡ r ∷ rs) (u : Vaulted V) (said : FlushesFrame told may_leave faults z v u) (longer : IsNoShorter told v u) where
     f : AllFlushed told may_leave faults s q gs v (taken z) u
@@ -151,12 +145,12 @@ module _ {V : Type 0} (told : V → Option Disk) (may_leave : V → Disk → Typ
 
     pub verdict_fails : j.transcript.client ≡ k.transcript.client → lines_of j ≡ lines_of k ++ CheckpointFailed (r ∷ rs) ∷ [] → rest_of j ≡ fits.making.more → j.state ≡ Outside → Went told may_leave faults precheck s B p w a state gs y v true j gs x u
     verdict_fails client lines rest now =
-        went_by told may_leave faults precheck s B f.batches p to w a state gs gs y x v u ds k j is whole move starts own_is flushed client lines
-        (subst (λ (m : State). Fits told may_leave faults s f.batches to (after w a.client ds to.core) gs x u (ended a move) (rest_of j) m) (sym now) (outside_by x a move false fits.making.more (rest_of j) rest (λ e. absurd (cc)) refl placed))
+        went_by told may_leave faults precheck s B f.batches p to w a state gs gs y x v u ds k j is whole move (making_spot fits.making) own_is flushed client lines
+        (subst (λ (m : State). Fits told may_leave faults s f.batches to (after w a.client ds to.core) gs x u (ended a move) (rest_of j) m) (sym now) (outside_by x a move false fits.making.more (rest_of j) rest (λ e. absurd (cc)) refl (making_placed fits.making)))
         (rows_same state j.state y x refl (λ n none. none))
 
     pub verdict_silent : j.transcript ≡ k.transcript → Went told may_leave faults precheck s B p w a state gs y v false j gs x u
-    verdict_silent same = went_silent told may_leave faults precheck s B f.batches p to w a state gs gs y x v u ds k j is whole move starts own_is flushed same
+    verdict_silent same = went_silent told may_leave faults precheck s B f.batches p to w a state gs gs y x v u ds k j is whole move (making_spot fits.making) own_is flushed same
 
   -- ---- the flush fails
   module _ (u : Vaulted V) (said : FailsFrame told may_leave faults z v u) (longer : IsNoShorter told v u) where
@@ -216,11 +210,11 @@ module _ {V : Type 0} (told : V → Option Disk) (may_leave : V → Disk → Typ
     flush_met = subst (λ (l : World). MetCause l a.client (count + 1) CheckpointAct None StoreFailed) (one_then w a.client (Logs (audit_record audit.begin found)) flush_es q.core flush_to.core) (met_store mid a.client (count + 1) flush_f.to flush_to (sym mid_number))
 
     pub last_flush_fails : j.transcript.client ≡ k.transcript.client → lines_of j ≡ lines_of k ++ Refused CheckpointAct StoreFailed ∷ [] → rest_of j ≡ fits.making.more → j.state ≡ Outside → Went told may_leave faults precheck s B p w a state gs y v true j gs flush_x u
-    last_flush_fails = store_failed told may_leave faults precheck s B B p flush_to w a state gs gs y flush_x v u k j flush_ds is flush_whole (λ n none. none) flush_stopped refl fits.making.more fits.making.since (count + 1) (count + 1) flush_work starts placed flush_own_is
+    last_flush_fails = store_failed told may_leave faults precheck s B B p flush_to w a state gs gs y flush_x v u k j flush_ds is flush_whole (λ n none. none) flush_stopped refl fits.making.more fits.making.since (count + 1) (count + 1) flush_work (making_spot fits.making) (making_placed fits.making) flush_own_is
         (cut_late (after w a.client flush_ds flush_to.core) audit.begin count found (inr flush_lost)) flush_met
 
     pub last_flush_fails_silent : j.transcript ≡ k.transcript → Went told may_leave faults precheck s B p w a state gs y v false j gs flush_x u
-    last_flush_fails_silent = store_failed_silent told may_leave faults precheck s B B p flush_to w a state gs gs y flush_x v u k j flush_ds is flush_whole (λ n none. none) flush_stopped refl fits.making.more fits.making.since (count + 1) (count + 1) flush_work starts placed flush_own_is
+    last_flush_fails_silent = store_failed_silent told may_leave faults precheck s B B p flush_to w a state gs gs y flush_x v u k j flush_ds is flush_whole (λ n none. none) flush_stopped refl fits.making.more fits.making.since (count + 1) (count + 1) flush_work (making_spot fits.making) (making_placed fits.making) flush_own_is
         (cut_late (after w a.client flush_ds flush_to.core) audit.begin count found (inr flush_lost)) flush_met
 
   -- ---- behind a clean audit the image's sync fails, or the anchor's move
@@ -267,11 +261,11 @@ module _ {V : Type 0} (told : V → Option Disk) (may_leave : V → Disk → Typ
         late_whole = did_then told may_leave faults precheck s B B C p q behind_fault w a.client state gs gs gs y z last v v u (Logs (audit_record audit.begin found) ∷ []) fs stood (λ _. ran) one late_failing
 
         pub store_fails : j.transcript.client ≡ k.transcript.client → lines_of j ≡ lines_of k ++ Refused CheckpointAct StoreFailed ∷ [] → rest_of j ≡ fits.making.more → j.state ≡ Outside → Went told may_leave faults precheck s B p w a state gs y v true j gs last u
-        store_fails = store_failed told may_leave faults precheck s B C p behind_fault w a state gs gs y last v u k j both is late_whole (λ n none. none) stopped refl fits.making.more fits.making.since (count + 1) (count + 1) done starts placed both_own
+        store_fails = store_failed told may_leave faults precheck s B C p behind_fault w a state gs gs y last v u k j both is late_whole (λ n none. none) stopped refl fits.making.more fits.making.since (count + 1) (count + 1) done (making_spot fits.making) (making_placed fits.making) both_own
             (cut_late (after w a.client both behind_fault.core) audit.begin count found (inl clean)) (both_met m behind_fault)
 
         pub store_fails_silent : j.transcript ≡ k.transcript → Went told may_leave faults precheck s B p w a state gs y v false j gs last u
-        store_fails_silent = store_failed_silent told may_leave faults precheck s B C p behind_fault w a state gs gs y last v u k j both is late_whole (λ n none. none) stopped refl fits.making.more fits.making.since (count + 1) (count + 1) done starts placed both_own
+        store_fails_silent = store_failed_silent told may_leave faults precheck s B C p behind_fault w a state gs gs y last v u k j both is late_whole (λ n none. none) stopped refl fits.making.more fits.making.since (count + 1) (count + 1) done (making_spot fits.making) (making_placed fits.making) both_own
             (cut_late (after w a.client both behind_fault.core) audit.begin count found (inl clean)) (both_met m behind_fault)
 
     -- the sync

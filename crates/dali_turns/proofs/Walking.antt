@@ -14,7 +14,7 @@ use Rattle.dali_system.specs.State.{SystemState, VaultState, CoreState}
 use Rattle.dali_system.specs.Regions.{RegionStep, Latch, NoteReads, Update, TakeBack, Poke, Check, Die, Clean}
 use Rattle.dali_system.specs.Passes.{Audits as PassAudits}
 use Rattle.dali_system.specs.Flushes.{frame_of}
-use Rattle.dali_system.specs.Courses.{Step, Operates, TakesBack, Frees, Answers, Commits, Ends, Locks, OnRegion, IsStep, AuditsBy}
+use Rattle.dali_system.specs.Courses.{Step, Operates, TakesBack, Frees, Answers, Commits, Ends, AuditBegins, AuditEnds, Locks, OnRegion, Passes, IsStep, AuditsBy}
 use Rattle.dali_parts.proofs.Vaults.{step_has_vault}
 use Rattle.dali_crash.specs.Checkpoints.{StoreStep, Does, Point, IsPointStep, IsPointCourse, is_of_checkpoint, copies_after}
 use Rattle.dali_crash.specs.Traces.{Start, bases_of}
@@ -111,15 +111,10 @@ own_told precheck t (Ends u) w c p same own e = absurd (cc)
 own_told precheck t x w c p same own e = absurd own
 
 audits_same : (precheck : Bool) (t : ℕ) (A : PassAudits) (L : List Record) (c : CoreState) (x : Step) → IsOwnStep precheck t c x → AuditsBy A A L c x
-audits_same precheck t A L c (Operates u b) own = refl
-audits_same precheck t A L c (TakesBack u b) own = refl
-audits_same precheck t A L c (Frees u b) own = refl
-audits_same precheck t A L c (Locks u k m) own = refl
-audits_same precheck t A L c (OnRegion r x) own = refl
-audits_same precheck t A L c (Answers u k a) own = refl
-audits_same precheck t A L c (Commits u) own = refl
-audits_same precheck t A L c (Ends u) own = refl
-audits_same precheck t A L c x own = absurd own
+audits_same precheck t A L c AuditBegins own = absurd own
+audits_same precheck t A L c (AuditEnds b found) own = absurd own
+audits_same precheck t A L c (Passes b r) own = absurd own
+audits_same precheck t A L c _ own = refl
 
 other_of : (t u : ℕ) (state : State) → ((n : ℕ) → t ≡ n → Owns state n) → (Owns state u → ⊥) → (t == u) ≡ false
 other_of t u state owns other = by_test (t == u) refl

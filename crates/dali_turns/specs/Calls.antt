@@ -4,17 +4,21 @@
 --     IsDeadly x                   the client dies in the next operation
 --     IsFurther x back x'          the transaction behind an operation: one that goes on brings the death nearer
 --     call_in command              the call, if the command is one
+--     MakesNext gs y plan command region     a call is under way, and its plan, which is at rest, makes its next operation in this region
 --     MustWait y t call            t must wait for the lock of the call, and the client of the holder hasn't died
-use Rattle.std.specs.Prelude.{◌≡◌, ℕ, ◌-◌, Bool, true, false, Option, Some, None, Result, Ok, OnOk, OnErr, IfOk}
+use Rattle.std.specs.Prelude.{◌≡◌, ℕ, ◌-◌, Bool, true, false, List, Option, Some, None, IsSome, Result, Ok, OnOk, OnErr, IfOk}
 use Rattle.dali_bytes.specs.declared.error.OutOfMemory.{OutOfMemory as NoMemory}
 use Rattle.dali_record.specs.declared.records.Call.{Call}
 use Rattle.dali_locks.specs.declared.mode.LockAnswer.TheVariants.{Wait}
 use Rattle.dali_locks.specs.Locks.{IsAnswer}
+use Rattle.dali_region.specs.State.{RegionState}
 use Rattle.dali_system.specs.State.{SystemState, state_of}
 use Rattle.dali_core.specs.declared.error.SystemError.{SystemError}
 use Rattle.dali_core.specs.declared.error.SystemError.TheVariants.{Stopped, LogFull, OutOfMemory}
+use Rattle.dali_core.specs.declared.want.Want.TheVariants.{Region}
 use Rattle.dali_calls.specs.Steps.{call_key}
-use Rattle.dali_calls.specs.Plans.{Planned, refused, mode_of}
+use Rattle.dali_calls.specs.Plans.{IsWhole, Planned, refused, mode_of, want_of}
+use Rattle.dali_single.specs.Stands.{IsAtRest}
 use Rattle.dali_transcripts.specs.World.{is_dead_in}
 use Rattle.dali_clients.specs.declared.command.Command.{Command}
 use Rattle.dali_clients.specs.declared.command.Command.TheVariants.{Call as CallCommand}
@@ -54,6 +58,12 @@ pub record IsFurther (x : Transaction) (back : Bool) (x' : Transaction) : Type 0
 abbrev pub call_in : Option Command → Option Call
 call_in (Some (CallCommand call)) = Some call
 call_in command = None
+
+pub record MakesNext (gs : List RegionState) (y : SystemState) (plan : Planned) (command : Option Command) (region : ℕ) : Type 0 where
+  pub rest : IsAtRest gs y plan
+  pub called : IsSome (call_in command)
+  pub wants : want_of plan ≡ Region region
+  pub whole : IsWhole plan
 
 abbrev pub MustWait : SystemState → ℕ → Call → Type 0
 MustWait y t call = (holder : ℕ) × IsAnswer y.locks t (call_key call) (mode_of call) (Wait holder) × (is_dead_in (state_of y holder) ≡ false)

@@ -1,10 +1,13 @@
 -- What the ends of a transaction leave of the core, and the lines that tell it.
 --     IsTakenBack, IsHalfBack  all undos of t were performed, and its end logged; or some were, and it stands as it did
 --     IsCleanedUp, IsLeftDead  a dead transaction was cleaned up; or it was refused, and is dead again
+--     ClearsWay t x state ..   the dead transaction t in the way of a call of x was cleaned up, and the client stands in this state; or the engine is stopped,
+--                              and the call is refused. Where memory is wanting t is dead again, and the client is as it was, or has said nothing
 --     abort_line, end_line     the lines, by the cause of the stop, if the engine is stopped
 --     SaysAlso k rest state lines j    the client goes on with these commands, stands in this state, and has said these lines
 --     GoesSilent k j           it has said nothing
-use Rattle.std.specs.Prelude.{◌≡◌, ℕ, List, [], ◌∷◌, Option, Some, None}
+use Rattle.std.specs.Prelude.{◌≡◌, ◌⊎◌, ℕ, Bool, List, [], ◌∷◌, Option, Some, None, Result, Ok, Err}
+use Rattle.dali_bytes.specs.declared.error.OutOfMemory.{OutOfMemory as NoMemory}
 use Rattle.dali_record.specs.declared.records.Record.TheVariants.{Ended}
 use Rattle.dali_region.specs.State.{RegionState}
 use Rattle.dali_att.specs.declared.state.State.TheVariants.{Dead}
@@ -14,7 +17,7 @@ use Rattle.dali_system.specs.State.{SystemState, state_of}
 use Rattle.dali_vault.specs.Vaulted.{Vaulted}
 use Rattle.dali_calls.specs.Others.{IsGone}
 use Rattle.dali_single.specs.Ending.{IsBackOf}
-use Rattle.dali_clean.specs.Cleaned.{AreDead, Ends, GivesBack}
+use Rattle.dali_clean.specs.Cleaned.{AreDead, Ends, GivesBack, MayClean, IsDead}
 use Rattle.dali_clean.specs.Others.{OthersStay}
 use Rattle.dali_ends.specs.Ended.{Comes}
 use Rattle.dali_clients.specs.declared.command.Command.{Command}
@@ -25,6 +28,9 @@ use Rattle.dali_clients.specs.declared.line.Why.TheVariants.{Stopped}
 use Rattle.dali_clients.specs.Said.{said}
 use Rattle.dali_turns.specs.declared.client.Client.{Client}
 use Rattle.dali_turns.specs.declared.client.State.{State}
+use Rattle.dali_turns.specs.declared.client.State.TheVariants.{Within}
+use Rattle.dali_turns.specs.declared.client.Transaction.{Transaction}
+use Rattle.dali_turns.specs.Clients.{Passes, RefusesCall, Stays}
 
 module _ {V : Type 0} (told : V → Option Disk) (may_leave : V → Disk → Type 0) (faults : V → ℕ) where
   pub record IsTakenBack (t : ℕ) (gs : List RegionState) (y : SystemState) (v : Vaulted V) (hs : List RegionState) (z : SystemState) : Type 0 where
@@ -48,6 +54,14 @@ pub record IsLeftDead (t : ℕ) (gs : List RegionState) (y : SystemState) (hs : 
   pub again : state_of z t ≡ Some (Dead None)
   pub dead : AreDead gs → AreDead hs
   pub others : OthersStay gs y t hs z
+
+abbrev pub ClearsWay : ℕ → Transaction → State → Client → List RegionState → SystemState → Result Bool NoMemory → Client → List RegionState → SystemState → Type 0
+ClearsWay t x state k gs y (Ok went) j hs z =
+    ((y.stop ≡ None) × IsCleanedUp t gs y hs z × Stays k state j)
+    ⊎ ((cause : Cause) × (y.stop ≡ Some cause) × (MayClean gs y t → IsLeftDead t gs y hs z) × RefusesCall k x (Stopped cause) j)
+ClearsWay t x state k gs y (Err e) j hs z =
+    ((MayClean gs y t → IsDead (state_of y t) → (y.stop ≡ None) × IsLeftDead t gs y hs z) × (j ≡ k))
+    ⊎ ((cause : Cause) × (y.stop ≡ Some cause) × (MayClean gs y t → IsLeftDead t gs y hs z) × Passes k (Within x) j)
 
 abbrev pub abort_line : Option Cause → Line
 abort_line None = AbortOk

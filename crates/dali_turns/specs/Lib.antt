@@ -18,5 +18,6 @@ pub mod Places
 pub mod Waits
 pub mod Moments
 pub mod Refuses
+pub mod Made
 pub mod Wanted
 pub mod Paces

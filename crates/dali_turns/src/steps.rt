@@ -18,6 +18,7 @@ ghost use Rattle.dali_turns.specs.Places.{HasPlaces, PlacesGo};
 ghost use Rattle.dali_turns.specs.Waits.{StaysPut};
 ghost use Rattle.dali_turns.specs.Moments.{StepLeavesRight, TurnLeavesRight};
 ghost use Rattle.dali_turns.specs.Refuses.{RefusesIn, Refuses};
+ghost use Rattle.dali_turns.specs.Made.{MakesStep};
 
 use crate::client::{Client, State, Transaction};
 use crate::run::no_run;
@@ -88,12 +89,9 @@ fn step<V: Store, G: Gate>(
     setting: &Setting<'_, G>,
 ) -> Result<bool, OutOfMemory>
     requires { HasPlaces V.told client.old.state core.old.regions.items core.old.vault }
-    ensures goes { StepGoes V.told V.may_leave V.faults setting.now.precheck client.old.state client.old core.old.regions.items core.old.system.state core.old.vault (is_ok result) client.new core.new.regions.items core.new.system.state core.new.vault }
-    ensures places { PlacesGo V.told client.old.state core.old.regions.items core.old.vault client.new.state core.new.regions.items core.new.vault }
+    ensures step { MakesStep V.told V.may_leave V.faults V.moment V.left_since setting.now.precheck client.old.state client.old core.old.regions.items core.old.system.state core.old.vault result client.new core.new.regions.items core.new.system.state core.new.vault }
     ensures idle { result ≡ Ok false → StaysPut core.old.system.state client.old.state client.old client.new × (core.new ≡ core.old) }
     ensures over { is_over client.old.state (length client.old.rest.now == 0) ≡ true → result ≡ Ok false }
-    ensures any_moment { StepLeavesRight V.told V.may_leave V.faults V.moment V.left_since client.old.state client.old core.old.regions.items core.old.system.state core.old.vault core.new.system.state core.new.vault }
-    ensures refuses { Refuses setting.now.precheck client.old.state client.old core.old.regions.items core.old.system.state core.old.vault.flushed result client.new core.new.vault.stopped }
 {
     match next_region(client, core) {
         Some(stepped) => stepped,
@@ -107,13 +105,10 @@ fn next_region<V: Store>(
     core: &mut Core<V>,
 ) -> Option<Result<bool, OutOfMemory>>
     requires { HasPlaces V.told client.old.state core.old.regions.items core.old.vault }
-    ensures goes { IfSome result (λ stepped. (precheck : Bool) → StepGoes V.told V.may_leave V.faults precheck client.old.state client.old core.old.regions.items core.old.system.state core.old.vault (is_ok stepped) client.new core.new.regions.items core.new.system.state core.new.vault) }
-    ensures places { IfSome result (λ stepped. PlacesGo V.told client.old.state core.old.regions.items core.old.vault client.new.state core.new.regions.items core.new.vault) }
+    ensures step { IfSome result (λ stepped. (precheck : Bool) → MakesStep V.told V.may_leave V.faults V.moment V.left_since precheck client.old.state client.old core.old.regions.items core.old.system.state core.old.vault stepped client.new core.new.regions.items core.new.system.state core.new.vault) }
     ensures on { IfSome result (λ stepped. IfOk stepped (λ went. went ≡ true)) }
     ensures busy { IfSome result (λ stepped. (none : Bool) → is_over client.old.state none ≡ false) }
     ensures past { result ≡ None → (client.new ≡ client.old) × (core.new ≡ core.old) × IsPast client.old.state core.old.regions.items core.old.system.state }
-    ensures any_moment { IfSome result (λ stepped. StepLeavesRight V.told V.may_leave V.faults V.moment V.left_since client.old.state client.old core.old.regions.items core.old.system.state core.old.vault core.new.system.state core.new.vault) }
-    ensures refuses { IfSome result (λ stepped. (precheck : Bool) → Refuses precheck client.old.state client.old core.old.regions.items core.old.system.state core.old.vault.flushed stepped client.new core.new.vault.stopped) }
 {
     match client.state {
         State::Auditing { .. } => audits::audit_next(client, core),
@@ -131,12 +126,9 @@ fn step_on<V: Store, G: Gate>(
 ) -> Result<bool, OutOfMemory>
     requires places { HasPlaces V.told client.old.state core.old.regions.items core.old.vault }
     requires past { IsPast client.old.state core.old.regions.items core.old.system.state }
-    ensures goes { StepGoes V.told V.may_leave V.faults setting.now.precheck client.old.state client.old core.old.regions.items core.old.system.state core.old.vault (is_ok result) client.new core.new.regions.items core.new.system.state core.new.vault }
-    ensures places { PlacesGo V.told client.old.state core.old.regions.items core.old.vault client.new.state core.new.regions.items core.new.vault }
+    ensures step { MakesStep V.told V.may_leave V.faults V.moment V.left_since setting.now.precheck client.old.state client.old core.old.regions.items core.old.system.state core.old.vault result client.new core.new.regions.items core.new.system.state core.new.vault }
     ensures idle { result ≡ Ok false → StaysPut core.old.system.state client.old.state client.old client.new × (core.new ≡ core.old) }
     ensures over { is_over client.old.state (length client.old.rest.now == 0) ≡ true → result ≡ Ok false }
-    ensures any_moment { StepLeavesRight V.told V.may_leave V.faults V.moment V.left_since client.old.state client.old core.old.regions.items core.old.system.state core.old.vault core.new.system.state core.new.vault }
-    ensures refuses { Refuses setting.now.precheck client.old.state client.old core.old.regions.items core.old.system.state core.old.vault.flushed result client.new core.new.vault.stopped }
 {
     match mem::replace(&mut client.state, State::Outside) {
         State::Outside => next(client, core, setting),

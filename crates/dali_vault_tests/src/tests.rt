@@ -1,52 +1,12 @@
 //! What no clause says: that calls succeed with ample memory, and what is left in the files.
-ghost use Rattle.std.specs.Prelude.{◌<◌, length};
 
-use dali_batch::{Found, Frame, format, is_formatted};
-use dali_memstore::{Fuse, MemoryStore};
+use dali_batch::{Found, Frame};
 use dali_region::Side;
 use dali_store::{FileName, Store};
+use dali_test_vaults::new_vault;
 use dali_vault::{Vault, VaultError};
 use std::alloc::Global;
 use std::test::Fail;
-
-// The record of a format with one index region and one heap region.
-const FIRST: [u8; 10] = [1, 1, 0, 0, 0, 1, 0, 0, 0, 1];
-
-// The calls that a format makes: a sync, a length and a read; a length, two writes and two syncs; a batch's four.
-const BEFORE: u64 = 12;
-
-// Formats a store with this first batch.
-fn vault_of<V: Store + Drop>(store: V, first: &Frame) -> Option<Vault<V>>
-    requires { 0 < length first.now.body }
-{
-    let mut store = store;
-    match is_formatted(&mut store) {
-        Ok(false) => {}
-        _ => return None,
-    }
-    match format(&mut store, first) {
-        Ok(end) => Some(Vault::new(store, end, 0)),
-        Err(_) => None,
-    }
-}
-
-// The vault of a store that passes so many calls on once it is formatted, with its first batch.
-fn new_vault(alloc: Global, passes: u64) -> Option<(Vault<Fuse<MemoryStore>>, Frame)>
-    requires few { passes < 100 }
-{
-    let fuse = Fuse::new(
-        MemoryStore::new(alloc, Vec::new(alloc)),
-        Some(BEFORE + passes),
-    );
-    let Ok(mut first) = Frame::new(alloc) else {
-        return None;
-    };
-    if first.add(&FIRST).is_err() || first.is_empty() {
-        return None;
-    }
-    let vault = vault_of(fuse, &first)?;
-    Some((vault, first))
-}
 
 fn flush<V: Store>(vault: &mut Vault<V>, frame: &Frame) -> Option<Result<u64, VaultError>> {
     if vault.end() >= 1 << 62 {
@@ -59,9 +19,7 @@ fn flush<V: Store>(vault: &mut Vault<V>, frame: &Frame) -> Option<Result<u64, Va
 fn flush_twice(
     alloc: Global,
     passes: u64,
-) -> Option<(Result<u64, VaultError>, Result<u64, VaultError>, bool, u64)>
-    requires few { passes < 100 }
-{
+) -> Option<(Result<u64, VaultError>, Result<u64, VaultError>, bool, u64)> {
     let (mut vault, frame) = new_vault(alloc, passes)?;
     let first = flush(&mut vault, &frame)?;
     let second = flush(&mut vault, &frame)?;
@@ -114,9 +72,7 @@ fn move_anchor<V: Store>(vault: &mut Vault<V>) -> Option<Result<(), VaultError>>
 }
 
 // Whether an image is written and synced, the anchor moved, and the log read at its beginning and its end, where so many calls pass.
-fn checkpoint(alloc: Global, passes: u64) -> Option<([bool; 5], u64, [u8; 2])>
-    requires few { passes < 100 }
-{
+fn checkpoint(alloc: Global, passes: u64) -> Option<([bool; 5], u64, [u8; 2])> {
     let (mut vault, _) = new_vault(alloc, passes)?;
     let written = vault.image_write(Side::A, 0, b"abc").is_ok();
     let synced = vault.image_sync(Side::A).is_ok();

@@ -1,12 +1,10 @@
 //! A dead transaction of a core is cleaned up.
-ghost use Rattle.std.specs.Prelude.{◌≡◌, Some, None, Err, IfSome, IfNone, IfErr, OnOk, OnErr, IsErrOf};
+ghost use Rattle.std.specs.Prelude.{◌≡◌, Some, None, Err, IfSome, IfNone, IfErr, OnOk, IsErrOf};
 ghost use Rattle.dali_att.specs.declared.state.State.TheVariants.{Dead};
 ghost use Rattle.dali_system.specs.State.{state_of};
-ghost use Rattle.dali_calls.specs.Flags.{FlagsStay};
-ghost use Rattle.dali_calls.specs.Others.{PromisesStay, IsGone};
 ghost use Rattle.dali_clean.specs.declared.error.CleanError.TheVariants.{NotDead as IsNotDead, Stopped, OutOfMemory};
 ghost use Rattle.dali_clean.specs.Cleaned.{AreDead, MayClean, IsDead, Ends, GivesBack};
-ghost use Rattle.dali_clean.specs.Others.{OthersStay, HasKept};
+ghost use Rattle.dali_clean.specs.Others.{CleansOnly};
 ghost use Rattle.dali_whole.specs.Cleaned.{EndsAt, LeavesAt};
 
 use crate::whole::Core;
@@ -55,11 +53,7 @@ fn clean_up<V: Store>(
     ensures dead { AreDead regions.old → AreDead regions.new }
     ensures refused { IsDead (state_of system.old.state txn) → IfSome system.old.state.stop (λ cause. result ≡ Err (Stopped cause)) }
     ensures memory { system.old.state.stop ≡ None → IfErr result (λ e. (e ≡ IsNotDead → ⊥) → e ≡ OutOfMemory) }
-    ensures others { OthersStay regions.old system.old.state txn regions.new system.new.state }
-    ensures promises { PromisesStay system.old txn system.new }
-    ensures gone { OnOk result (IsGone system.new.state txn) }
-    ensures kept { OnErr result (HasKept system.old system.new) }
-    ensures flags { FlagsStay regions.old regions.new }
+    ensures only { CleansOnly regions.old system.old txn result regions.new system.new }
 {
     if let Some(error) = refusal(regions, system, txn) {
         return Err(error);
@@ -86,11 +80,7 @@ pub fn clean<V: Store>(core: &mut Core<V>, txn: u64) -> Result<(), CleanError>
     ensures dead { AreDead core.old.regions.items → AreDead core.new.regions.items }
     ensures refused { IsDead (state_of core.old.system.state txn) → IfSome core.old.system.state.stop (λ cause. result ≡ Err (Stopped cause)) }
     ensures memory { core.old.system.state.stop ≡ None → IfErr result (λ e. (e ≡ IsNotDead → ⊥) → e ≡ OutOfMemory) }
-    ensures others { OthersStay core.old.regions.items core.old.system.state txn core.new.regions.items core.new.system.state }
-    ensures promises { PromisesStay core.old.system txn core.new.system }
-    ensures gone { OnOk result (IsGone core.new.system.state txn) }
-    ensures kept { OnErr result (HasKept core.old.system core.new.system) }
-    ensures flags { FlagsStay core.old.regions.items core.new.regions.items }
+    ensures only { CleansOnly core.old.regions.items core.old.system txn result core.new.regions.items core.new.system }
 {
     clean_up(&mut core.regions, &mut core.system, &core.vault, txn)
 }

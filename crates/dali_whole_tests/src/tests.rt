@@ -1,11 +1,11 @@
 //! What no clause says: that a core is flushed with ample memory, what is left where each call of the store fails, and
 //! that a core and its parts may be given to a thread.
-ghost use Rattle.std.specs.Prelude.{◌≡◌, ◌<◌, true, length};
+ghost use Rattle.std.specs.Prelude.{◌≡◌, true};
 ghost use Rattle.std.specs.List.{list_all};
 ghost use Rattle.dali_system.specs.Wholes.{is_of_kind, latched_in};
 
 use dali_att::State;
-use dali_batch::{Found, Frame, format, is_formatted};
+use dali_batch::Found;
 use dali_clean::CleanError;
 use dali_core::System;
 use dali_geometry::Geometry;
@@ -14,54 +14,18 @@ use dali_record::Pending;
 use dali_region::Region;
 use dali_store::Store;
 use dali_system::Cause;
+use dali_test_vaults::new_vault;
 use dali_vault::{Vault, VaultError};
 use dali_whole::{Core, clean, flush};
 use std::alloc::Global;
 use std::test::Fail;
 
-// The record of a format with one index region and one heap region.
-const FIRST: [u8; 10] = [1, 1, 0, 0, 0, 1, 0, 0, 0, 1];
-
-// The calls that a format makes: a sync, a length and a read; a length, two writes and two syncs; a batch's four.
-const BEFORE: u64 = 12;
-
-// Formats a store with this first batch.
-fn vault_of<V: Store + Drop>(store: V, first: &Frame) -> Option<Vault<V>>
-    requires { 0 < length first.now.body }
-{
-    let mut store = store;
-    match is_formatted(&mut store) {
-        Ok(false) => {}
-        _ => return None,
-    }
-    match format(&mut store, first) {
-        Ok(end) => Some(Vault::new(store, end, 0)),
-        Err(_) => None,
-    }
-}
-
 // The core of a store that passes so many calls on once it is formatted, without regions, and with one transaction that
 // has begun.
-fn begun(alloc: Global, passes: u64) -> Option<Core<Fuse<MemoryStore>>>
-    requires few { passes < 100 }
-{
-    let fuse = Fuse::new(
-        MemoryStore::new(alloc, Vec::new(alloc)),
-        Some(BEFORE + passes),
-    );
-    let Ok(mut first) = Frame::new(alloc) else {
-        return None;
-    };
-    if first.add(&FIRST).is_err() || first.is_empty() {
-        return None;
-    }
-    let vault = vault_of(fuse, &first)?;
-    let Ok(geometry) = Geometry::new(1, 1) else {
-        return None;
-    };
-    let Ok(mut system) = System::new(alloc, geometry, 1, 1, 10, 1000) else {
-        return None;
-    };
+fn begun(alloc: Global, passes: u64) -> Option<Core<Fuse<MemoryStore>>> {
+    let (vault, _) = new_vault(alloc, passes)?;
+    let geometry = Geometry::new(1, 1).ok()?;
+    let mut system = System::new(alloc, geometry, 1, 1, 10, 1000).ok()?;
     let Ok((1, _)) = system.begin() else {
         return None;
     };
@@ -102,9 +66,7 @@ fn flush_twice(
         (Option<Cause>, bool, u64, usize, u64),
         bool,
     ),
->
-    requires few { passes < 100 }
-{
+> {
     let mut core = begun(alloc, passes)?;
     let first = flush_core(&mut core, alloc)?;
     let second = flush_core(&mut core, alloc)?;
@@ -229,9 +191,7 @@ fn die_and_clean(
         Option<State>,
         (Option<Cause>, bool, u64, usize, u64),
     ),
->
-    requires few { passes < 100 }
-{
+> {
     let mut core = begun(alloc, passes)?;
     let _ = flush_core(&mut core, alloc)?;
     let Core {

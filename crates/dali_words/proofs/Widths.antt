@@ -9,7 +9,7 @@ word_at [] i h = omega arith
 word_at (w ∷ ws) zero h = h.0
 word_at (w ∷ ws) (suc i) h = word_at ws i h.1
 
-each_word : (ws : List ℕ) → ((i : ℕ) → get_or ws i 0 < 2 ^ 64) → AllByRecursion (λ w. w < 2 ^ 64) ws
+pub each_word : (ws : List ℕ) → ((i : ℕ) → get_or ws i 0 < 2 ^ 64) → AllByRecursion (λ w. w < 2 ^ 64) ws
 each_word [] h = tt
 each_word (w ∷ ws) h = (h 0, each_word ws (λ i. h (suc i)))
 

@@ -19,6 +19,11 @@ write_under-under m (x ∷ xs) (w ∷ ws) e h = by_first (eqb_tells (m % 2) 1) (
     by_first (inl p) ih = rw (p.0) (ap (λ ys. x ∷ ys) ih)
     by_first (inr p) ih = rw (p.0) (let low : m % 2 ≡ 0 = omega (arith, p.1) in let same : x ≡ w = h 0 (bit_at_lowest m ∙ low) in cc (ih, same))
 
+-- no word of the set is written
+pub write_nothing : (news ws : List ℕ) → write_under 0 news ws ≡ ws
+write_nothing news [] = refl
+write_nothing news (w ∷ ws) = ap (λ xs. w ∷ xs) (write_nothing news ws)
+
 -- bits of a set of words
 mask_grows : (n : ℕ) (is : List ℕ) (i : ℕ) → bit_at n i ≡ 1 → bit_at (fold (λ m j. bit_or m (2 ^ j)) n is) i ≡ 1
 mask_grows n [] i h = h

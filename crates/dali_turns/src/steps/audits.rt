@@ -1,19 +1,14 @@
 //! The steps of an audit.
-ghost use Rattle.std.specs.Prelude.{◌≡◌, ℕ, ◌<◌, ◌≤◌, ◌^◌, Bool, true, Some, None, Err, is_ok, IfOk, IfErr, IfSome, OnOk, OnErr, length, replicate};
-ghost use Rattle.dali_geometry.specs.Places.{regions as regions_of};
-ghost use Rattle.dali_record.specs.declared.records.Record.TheVariants.{AuditBegin};
-ghost use Rattle.dali_system.specs.Steps.{audit_begun};
-ghost use Rattle.dali_core.specs.declared.error.SystemError.TheVariants.{OutOfMemory as Memory};
-ghost use Rattle.dali_core.specs.Audits.{audit_refusal};
+ghost use Rattle.std.specs.Prelude.{◌≡◌, ℕ, ◌<◌, ◌≤◌, ◌^◌, Bool, true, Some, None, is_ok, IfOk, IfSome, length};
 ghost use Rattle.dali_audit.specs.Findings.{Audited};
-ghost use Rattle.dali_audit.specs.declared.audit.Finding.TheVariants.{Waiting};
 ghost use Rattle.dali_clients.specs.declared.command.Command.TheVariants.{Audit as IsAudit};
 ghost use Rattle.dali_clients.specs.declared.line.Line.TheVariants.{Refused as IsRefused};
 ghost use Rattle.dali_turns.specs.declared.client.State.TheVariants.{Outside as IsOutside, Auditing as IsAuditing};
-ghost use Rattle.dali_turns.specs.Clients.{next_of, Passes, Finishes};
+ghost use Rattle.dali_turns.specs.Clients.{next_of};
 ghost use Rattle.dali_turns.specs.Goes.{StepGoes};
 ghost use Rattle.dali_turns.specs.Moments.{StepLeavesRight};
-ghost use Rattle.dali_turns.specs.Refuses.{SaysStop, RefusesNow, Refuses};
+ghost use Rattle.dali_turns.specs.Refuses.{SaysStop, RefusesNow};
+ghost use Rattle.dali_turns.specs.Made.{MakesStep};
 ghost use Rattle.dali_turns.specs.Places.{PlacesGo};
 
 use crate::client::{Client, State};
@@ -22,7 +17,6 @@ use crate::why::why_of;
 use dali_audit::Audit;
 use dali_bytes::OutOfMemory;
 use dali_clients::{Command, Line, Why};
-use dali_core::{System, SystemError};
 use dali_store::Store;
 use dali_vault::Vault;
 use dali_whole::{Core, flush};
@@ -45,22 +39,6 @@ pub(crate) fn has_room<V: Store>(vault: &Vault<V>) -> bool
     vault.end() < 1 << 62 && vault.current() < 1 << 62
 }
 
-/// Begins an audit, as `Audit::begin` does: its numbers fit their fields.
-pub(crate) fn begin(alloc: Global, system: &mut System) -> Result<Audit, SystemError>
-    ensures audit { IfOk result (λ audit. audit ≡ record { begin = system.old.state.records; findings = replicate (regions_of system.old.state.sizes) Waiting }) }
-    ensures ok { OnOk result (system.new ≡ record system.old { state = audit_begun system.old.state }) }
-    ensures err { OnErr result (system.new ≡ system.old) }
-    ensures refused { IfSome (audit_refusal system.old.state AuditBegin) (λ e. result ≡ Err e) }
-    ensures room { OnOk result (audit_refusal system.old.state AuditBegin ≡ None) }
-    ensures memory { audit_refusal system.old.state AuditBegin ≡ None → IfErr result (λ e. e ≡ Memory) }
-    ensures number { system.old.state.records < 2 ^ 64 }
-    ensures count { regions_of system.old.state.sizes < 2 ^ 32 }
-{
-    let _number = system.records();
-    let _count = system.geometry().regions();
-    Audit::begin(alloc, system)
-}
-
 /// Logs that an audit begins.
 pub(crate) fn start<V: Store>(
     client: &mut Client<'_>,
@@ -75,7 +53,7 @@ pub(crate) fn start<V: Store>(
     ensures vault { core.new.vault ≡ core.old.vault }
     ensures refuses { RefusesNow core.old.system.state IsAudit client.old result client.new }
 {
-    match begin(alloc, &mut core.system) {
+    match Audit::begin(alloc, &mut core.system) {
         Ok(audit) => {
             client.state = State::Auditing { audit, next: 0 };
             Ok(true)
@@ -93,12 +71,9 @@ pub(crate) fn audit_next<V: Store>(
     client: &mut Client<'_>,
     core: &mut Core<V>,
 ) -> Option<Result<bool, OutOfMemory>>
-    ensures goes { IfSome result (λ stepped. (precheck : Bool) → StepGoes V.told V.may_leave V.faults precheck client.old.state client.old core.old.regions.items core.old.system.state core.old.vault (is_ok stepped) client.new core.new.regions.items core.new.system.state core.new.vault) }
-    ensures places { IfSome result (λ stepped. PlacesGo V.told client.old.state core.old.regions.items core.old.vault client.new.state core.new.regions.items core.new.vault) }
+    ensures step { IfSome result (λ stepped. (precheck : Bool) → MakesStep V.told V.may_leave V.faults V.moment V.left_since precheck client.old.state client.old core.old.regions.items core.old.system.state core.old.vault stepped client.new core.new.regions.items core.new.system.state core.new.vault) }
     ensures on { IfSome result (λ stepped. IfOk stepped (λ went. went ≡ true)) }
     ensures past { result ≡ None → (client.new ≡ client.old) × (core.new ≡ core.old) × ((audit : Audited) (next : ℕ) → client.old.state ≡ IsAuditing audit next → length core.old.regions.items ≤ next) }
-    ensures any_moment { IfSome result (λ stepped. StepLeavesRight V.told V.may_leave V.faults V.moment V.left_since client.old.state client.old core.old.regions.items core.old.system.state core.old.vault core.new.system.state core.new.vault) }
-    ensures refuses { IfSome result (λ stepped. (precheck : Bool) → Refuses precheck client.old.state client.old core.old.regions.items core.old.system.state core.old.vault.flushed stepped client.new core.new.vault.stopped) }
 {
     let State::Auditing { audit, next } = &mut client.state else {
         return None;

@@ -1,7 +1,7 @@
 //! The steps of a call.
 ghost use Rattle.std.specs.Prelude.{◌≡◌, ℕ, Bool, true, false, not, Some, None, IsSome, OnOk, OnErr, IfOk, IfErr, is_ok, is_some};
 ghost use Rattle.dali_record.specs.declared.records.Call.{Call as Called};
-ghost use Rattle.dali_core.specs.declared.want.Want.TheVariants.{Region as WantsRegion, Done as AnswerIsNext};
+ghost use Rattle.dali_core.specs.declared.want.Want.TheVariants.{Done as AnswerIsNext};
 ghost use Rattle.dali_calls.specs.Flags.{FlagsStay};
 ghost use Rattle.dali_calls.specs.Plans.{want_of, plan_next, is_back, is_answered, IsWhole};
 ghost use Rattle.dali_single.specs.Refusals.{IsRefusal, IsLatched};
@@ -19,7 +19,8 @@ ghost use Rattle.dali_clients.specs.declared.command.Command.TheVariants.{Call a
 ghost use Rattle.dali_clients.specs.declared.line.Why.TheVariants.{Damaged as IsDamaged};
 ghost use Rattle.dali_turns.specs.declared.client.State.TheVariants.{Outside as IsOutside, Within as IsWithin, Calling as IsCalling, TakingBack as IsTakingBack};
 ghost use Rattle.dali_turns.specs.Clients.{next_of, next_point, Stays};
-ghost use Rattle.dali_turns.specs.Calls.{TurnsBack, IsRefusedBy, IsDeadly, IsFurther, MustWait, call_in};
+ghost use Rattle.dali_turns.specs.Calls.{TurnsBack, IsRefusedBy, IsDeadly, IsFurther, MakesNext, MustWait, call_in};
+ghost use Rattle.dali_turns.specs.Ends.{ClearsWay};
 ghost use Rattle.dali_turns.specs.Goes.{StepGoes};
 ghost use Rattle.dali_turns.specs.Refuses.{IsMet, IsMetBack, SaysStop, Refuses};
 ghost use Rattle.dali_turns.specs.Places.{PlacesGo};
@@ -38,7 +39,7 @@ use dali_locks::LockAnswer;
 use dali_record::Call;
 use dali_region::LatchError;
 use dali_single::StepError;
-use dali_stepwise::Gate;
+use dali_stepwise::{Gate, GatePoint};
 use dali_store::Store;
 use dali_whole::Core;
 use std::alloc::Global;
@@ -111,9 +112,28 @@ fn clean_holder<'a, V: Store>(
     ensures on { IfOk result (λ went. went ≡ true) }
     ensures vault { core.new.vault ≡ core.old.vault }
 {
-    match clean_up(core, holder)? {
+    let state = State::Within { transaction };
+    clear_way(client, transaction, state, holder, core)
+}
+
+// Cleans up a dead transaction that is in the way of a call, and its client stands in this state. Where the engine is stopped
+// the call is refused.
+fn clear_way<'a, V: Store>(
+    client: &mut Client<'a>,
+    transaction: Transaction<'a>,
+    state: State<'a>,
+    dead: u64,
+    core: &mut Core<V>,
+) -> Result<bool, OutOfMemory>
+    requires { IsSome (next_of client.old) }
+    ensures clears { ClearsWay dead transaction.entry state.entry client.old core.old.regions.items core.old.system.state result client.new core.new.regions.items core.new.system.state }
+    ensures flags { FlagsStay core.old.regions.items core.new.regions.items }
+    ensures on { IfOk result (λ went. went ≡ true) }
+    ensures vault { core.new.vault ≡ core.old.vault }
+{
+    match clean_up(core, dead)? {
         None => {
-            client.state = State::Within { transaction };
+            client.state = state;
             Ok(true)
         }
         Some(why) => {
@@ -192,6 +212,15 @@ pub(crate) fn call<'a, V: Store, G: Gate>(
     }
 }
 
+// The point at which a client passes the gate in its next operation.
+fn gate_point<'a, G: Gate>(client: &Client<'_>, setting: &Setting<'a, G>) -> GatePoint<'a, G> {
+    GatePoint {
+        gate: setting.gate,
+        client: client.transcript.client(),
+        number: client.point(),
+    }
+}
+
 // Makes the next operation of a plan over the core.
 fn make_next<V: Store, G: Gate>(
     plan: &mut BoxedPlan,
@@ -207,14 +236,13 @@ fn make_next<V: Store, G: Gate>(
     ensures flags { FlagsStay core.old.regions.items core.new.regions.items }
     ensures vault { core.new.vault ≡ core.old.vault }
 {
+    let point = gate_point(client, setting);
     dali_stepwise::operate(
         &mut plan.plan,
         &mut core.regions,
         &mut core.system,
         setting.precheck,
-        setting.gate,
-        client.transcript.client(),
-        client.point(),
+        &point,
     )
 }
 
@@ -233,14 +261,13 @@ fn die_next<V: Store, G: Gate>(
     ensures flags { FlagsStay core.old.regions.items core.new.regions.items }
     ensures vault { core.new.vault ≡ core.old.vault }
 {
+    let point = gate_point(client, setting);
     dali_stepwise::die(
         &mut plan.plan,
         &mut core.regions,
         &mut core.system,
         setting.precheck,
-        setting.gate,
-        client.transcript.client(),
-        client.point(),
+        &point,
     )
 }
 
@@ -255,10 +282,7 @@ fn operate<'a, V: Store, G: Gate>(
     setting: &Setting<'_, G>,
 ) -> Result<bool, OutOfMemory>
     requires stands { client.old.state ≡ IsOutside }
-    requires rest { IsAtRest core.old.regions.items core.old.system.state plan }
-    requires called { IsSome (call_in (next_of client.old)) }
-    requires wants { want_of plan ≡ WantsRegion region }
-    requires whole { IsWhole plan }
+    requires makes { MakesNext core.old.regions.items core.old.system.state plan (next_of client.old) region }
     requires way { onward ≡ not (is_back plan) }
     requires lives { onward ≡ true → IsDeadly transaction → ⊥ }
     ensures goes { StepGoes V.told V.may_leave V.faults setting.now.precheck (IsCalling transaction.entry plan) client.old core.old.regions.items core.old.system.state core.old.vault (is_ok result) client.new core.new.regions.items core.new.system.state core.new.vault }
@@ -302,10 +326,7 @@ fn die<'a, V: Store, G: Gate>(
     setting: &Setting<'_, G>,
 ) -> Result<bool, OutOfMemory>
     requires stands { client.old.state ≡ IsOutside }
-    requires rest { IsAtRest core.old.regions.items core.old.system.state plan }
-    requires called { IsSome (call_in (next_of client.old)) }
-    requires wants { want_of plan ≡ WantsRegion region }
-    requires whole { IsWhole plan }
+    requires makes { MakesNext core.old.regions.items core.old.system.state plan (next_of client.old) region }
     requires way { is_back plan ≡ false }
     requires deadly { IsDeadly transaction }
     ensures goes { StepGoes V.told V.may_leave V.faults setting.now.precheck (IsCalling transaction.entry plan) client.old core.old.regions.items core.old.system.state core.old.vault (is_ok result) client.new core.new.regions.items core.new.system.state core.new.vault }
@@ -383,10 +404,7 @@ fn hindered<'a, V: Store>(
     core: &mut Core<V>,
 ) -> Result<bool, OutOfMemory>
     requires stands { client.old.state ≡ IsOutside }
-    requires rest { IsAtRest core.old.regions.items core.old.system.state plan }
-    requires called { IsSome (call_in (next_of client.old)) }
-    requires wants { want_of plan ≡ WantsRegion region }
-    requires whole { IsWhole plan }
+    requires makes { MakesNext core.old.regions.items core.old.system.state plan (next_of client.old) region }
     requires cause { (precheck : Bool) × IsRefusal precheck plan core.old.regions.items core.old.system.state error }
     requires lives { is_back plan ≡ false → IsDeadly transaction → IsLatched error }
     ensures goes { (precheck : Bool) → IsRefusal precheck plan core.old.regions.items core.old.system.state error → StepGoes V.told V.may_leave V.faults precheck (IsCalling transaction.entry plan) client.old core.old.regions.items core.old.system.state core.old.vault (is_ok result) client.new core.new.regions.items core.new.system.state core.new.vault }
@@ -399,16 +417,10 @@ fn hindered<'a, V: Store>(
 {
     match error {
         StepError::Latch { cause } => match cause {
-            LatchError::DeadHolder { txn } => match clean_up(core, txn)? {
-                None => {
-                    client.state = State::Calling { transaction, plan };
-                    Ok(true)
-                }
-                Some(why) => {
-                    client.refuse_call(transaction, why)?;
-                    Ok(true)
-                }
-            },
+            LatchError::DeadHolder { txn } => {
+                let state = State::Calling { transaction, plan };
+                clear_way(client, transaction, state, txn, core)
+            }
             LatchError::Damaged { codeword, found } => {
                 let why = Why::Damaged {
                     region,
@@ -559,20 +571,14 @@ fn stuck<'a, V: Store>(
 {
     match error {
         StepError::Latch { cause } => match cause {
-            LatchError::DeadHolder { txn } => match clean_up(core, txn)? {
-                None => {
-                    client.state = State::TakingBack {
-                        transaction,
-                        plan,
-                        why,
-                    };
-                    Ok(true)
-                }
-                Some(why) => {
-                    client.refuse_call(transaction, why)?;
-                    Ok(true)
-                }
-            },
+            LatchError::DeadHolder { txn } => {
+                let state = State::TakingBack {
+                    transaction,
+                    plan,
+                    why,
+                };
+                clear_way(client, transaction, state, txn, core)
+            }
             // no live client has it latched
             LatchError::Latched { .. } => no_run(),
             // what takes back compares nothing

@@ -1,8 +1,6 @@
 //! The steps of a checkpoint.
-ghost use Rattle.std.specs.Prelude.{◌≡◌, ℕ, ◌+◌, ◌<◌, ◌≤◌, ◌^◌, Bool, true, Some, None, Err, is_ok, IfOk, IfSome, OnOk, OnErr, IsSome, IsSomeAnd, length};
+ghost use Rattle.std.specs.Prelude.{◌≡◌, ℕ, ◌+◌, ◌<◌, ◌≤◌, ◌^◌, Bool, true, Some, None, Err, is_ok, IfOk, IfSome, OnOk, OnErr, IsSomeAnd, length};
 ghost use Rattle.dali_geometry.specs.Places.{regions as regions_of};
-ghost use Rattle.dali_record.specs.declared.records.Record.TheVariants.{AuditBegin};
-ghost use Rattle.dali_core.specs.Audits.{audit_refusal};
 ghost use Rattle.dali_checkpoint.specs.Kept.{Checkpointed, given_up};
 ghost use Rattle.dali_audit.specs.Findings.{Audited};
 ghost use Rattle.dali_clients.specs.declared.command.Command.TheVariants.{Checkpoint as IsCheckpoint};
@@ -11,12 +9,13 @@ ghost use Rattle.dali_turns.specs.Endings.{line_in, SaysEnd, Unsaid};
 ghost use Rattle.dali_turns.specs.Clients.{next_of};
 ghost use Rattle.dali_turns.specs.Goes.{StepGoes};
 ghost use Rattle.dali_turns.specs.Moments.{StepLeavesRight};
-ghost use Rattle.dali_turns.specs.Refuses.{SaysStop, RefusesNow, GivesUp, Refuses};
+ghost use Rattle.dali_turns.specs.Refuses.{SaysStop, RefusesNow, Refuses};
+ghost use Rattle.dali_turns.specs.Made.{MakesStep};
 ghost use Rattle.dali_turns.specs.Places.{HasPlaces, PlacesGo};
 
 use crate::client::{Client, State};
 use crate::run::no_run;
-use crate::steps::audits::{self, has_room};
+use crate::steps::audits::has_room;
 use dali_audit::Audit;
 use dali_bytes::OutOfMemory;
 use dali_checkpoint::{Checkpoint, CheckpointError};
@@ -158,12 +157,9 @@ pub(crate) fn copy_next<V: Store>(
     core: &mut Core<V>,
 ) -> Option<Result<bool, OutOfMemory>>
     requires places { HasPlaces V.told client.old.state core.old.regions.items core.old.vault }
-    ensures goes { IfSome result (λ stepped. (precheck : Bool) → StepGoes V.told V.may_leave V.faults precheck client.old.state client.old core.old.regions.items core.old.system.state core.old.vault (is_ok stepped) client.new core.new.regions.items core.new.system.state core.new.vault) }
-    ensures places { IfSome result (λ stepped. PlacesGo V.told client.old.state core.old.regions.items core.old.vault client.new.state core.new.regions.items core.new.vault) }
+    ensures step { IfSome result (λ stepped. (precheck : Bool) → MakesStep V.told V.may_leave V.faults V.moment V.left_since precheck client.old.state client.old core.old.regions.items core.old.system.state core.old.vault stepped client.new core.new.regions.items core.new.system.state core.new.vault) }
     ensures on { IfSome result (λ stepped. IfOk stepped (λ went. went ≡ true)) }
     ensures past { result ≡ None → (client.new ≡ client.old) × (core.new ≡ core.old) × ((checkpoint : Checkpointed) (next : ℕ) → client.old.state ≡ IsCopying checkpoint next → core.old.system.state.stop ≡ None → length core.old.regions.items ≤ next) }
-    ensures any_moment { IfSome result (λ stepped. StepLeavesRight V.told V.may_leave V.faults V.moment V.left_since client.old.state client.old core.old.regions.items core.old.system.state core.old.vault core.new.system.state core.new.vault) }
-    ensures refuses { IfSome result (λ stepped. (precheck : Bool) → Refuses precheck client.old.state client.old core.old.regions.items core.old.system.state core.old.vault.flushed stepped client.new core.new.vault.stopped) }
 {
     let State::Copying { checkpoint, next } = &mut client.state else {
         return None;
@@ -186,7 +182,8 @@ pub(crate) fn copy_next<V: Store>(
     }
 }
 
-/// Ends the image, where each region was copied. Where the engine was stopped in between, that is why there is no image.
+/// Ends the image, where each region was copied, and begins its audit. Where the engine was stopped in between, that is why
+/// there is no image.
 pub(crate) fn copy<V: Store>(
     client: &mut Client<'_>,
     checkpoint: Checkpoint,
@@ -207,27 +204,6 @@ pub(crate) fn copy<V: Store>(
         give_up(client, checkpoint, CheckpointError::Stopped { cause }, core)?;
         return Ok(true);
     }
-    settle(client, checkpoint, next, alloc, core)
-}
-
-// Ends the image, and begins its audit.
-fn settle<V: Store>(
-    client: &mut Client<'_>,
-    checkpoint: Checkpoint,
-    next: u32,
-    alloc: Global,
-    core: &mut Core<V>,
-) -> Result<bool, OutOfMemory>
-    requires stands { client.old.state ≡ IsOutside }
-    requires places { HasPlaces V.told (IsCopying checkpoint next) core.old.regions.items core.old.vault }
-    requires runs { core.old.system.state.stop ≡ None }
-    requires all { length core.old.regions.items ≤ next }
-    ensures goes { (precheck : Bool) → StepGoes V.told V.may_leave V.faults precheck (IsCopying checkpoint next) client.old core.old.regions.items core.old.system.state core.old.vault (is_ok result) client.new core.new.regions.items core.new.system.state core.new.vault }
-    ensures places { PlacesGo V.told (IsCopying checkpoint next) core.old.regions.items core.old.vault client.new.state core.new.regions.items core.new.vault }
-    ensures on { IfOk result (λ went. went ≡ true) }
-    ensures any_moment { StepLeavesRight V.told V.may_leave V.faults V.moment V.left_since (IsCopying checkpoint next) client.old core.old.regions.items core.old.system.state core.old.vault core.new.system.state core.new.vault }
-    ensures refuses { IsSome (audit_refusal core.old.system.state AuditBegin) → OnOk result (GivesUp client.old client.new) }
-{
     if !may_settle(&checkpoint, next) || !has_room(&core.vault) {
         return no_run();
     }
@@ -239,7 +215,7 @@ fn settle<V: Store>(
             return Ok(true);
         }
     }
-    match audits::begin(alloc, &mut core.system) {
+    match Audit::begin(alloc, &mut core.system) {
         Ok(audit) => {
             client.state = State::Certifying {
                 checkpoint,
@@ -261,12 +237,9 @@ pub(crate) fn certify_next<V: Store>(
     client: &mut Client<'_>,
     core: &mut Core<V>,
 ) -> Option<Result<bool, OutOfMemory>>
-    ensures goes { IfSome result (λ stepped. (precheck : Bool) → StepGoes V.told V.may_leave V.faults precheck client.old.state client.old core.old.regions.items core.old.system.state core.old.vault (is_ok stepped) client.new core.new.regions.items core.new.system.state core.new.vault) }
-    ensures places { IfSome result (λ stepped. PlacesGo V.told client.old.state core.old.regions.items core.old.vault client.new.state core.new.regions.items core.new.vault) }
+    ensures step { IfSome result (λ stepped. (precheck : Bool) → MakesStep V.told V.may_leave V.faults V.moment V.left_since precheck client.old.state client.old core.old.regions.items core.old.system.state core.old.vault stepped client.new core.new.regions.items core.new.system.state core.new.vault) }
     ensures on { IfSome result (λ stepped. IfOk stepped (λ went. went ≡ true)) }
     ensures past { result ≡ None → (client.new ≡ client.old) × (core.new ≡ core.old) × ((checkpoint : Checkpointed) (audit : Audited) (next : ℕ) → client.old.state ≡ IsCertifying checkpoint audit next → length core.old.regions.items ≤ next) }
-    ensures any_moment { IfSome result (λ stepped. StepLeavesRight V.told V.may_leave V.faults V.moment V.left_since client.old.state client.old core.old.regions.items core.old.system.state core.old.vault core.new.system.state core.new.vault) }
-    ensures refuses { IfSome result (λ stepped. (precheck : Bool) → Refuses precheck client.old.state client.old core.old.regions.items core.old.system.state core.old.vault.flushed stepped client.new core.new.vault.stopped) }
 {
     let State::Certifying { audit, next, .. } = &mut client.state else {
         return None;

@@ -6,7 +6,7 @@ ghost use Rattle.dali_clients.specs.declared.line.Line.TheVariants.{Busy as IsBu
 ghost use Rattle.dali_clients.specs.Told.{act_of};
 ghost use Rattle.dali_transcripts.specs.Moves.{behind_close as acts_behind};
 ghost use Rattle.dali_turns.specs.declared.client.State.TheVariants.{Outside as IsOutside, Within as IsWithin, Waiting as IsWaiting};
-ghost use Rattle.dali_turns.specs.Clients.{next_of};
+ghost use Rattle.dali_turns.specs.Clients.{next_of, Passes, Finishes};
 ghost use Rattle.dali_turns.specs.Ends.{IsTakenBack, IsHalfBack, abort_line, end_line as line_of, SaysAlso, GoesSilent};
 ghost use Rattle.dali_turns.specs.Goes.{StepGoes, YieldGoes};
 ghost use Rattle.dali_turns.specs.Places.{PlacesGo};
@@ -61,6 +61,19 @@ fn end_line(left: Option<Cause>) -> Line
     }
 }
 
+// The client says how its transaction ended, and stands outside of one.
+fn close(client: &mut Client<'_>, line: Line) -> Result<bool, OutOfMemory>
+    ensures ok { OnOk result (Finishes client.old IsOutside line client.new) }
+    ensures err { OnErr result (Passes client.old IsOutside client.new) }
+    ensures stands { client.new.state ≡ IsOutside }
+    ensures on { IfOk result (λ went. went ≡ true) }
+{
+    match client.finish(State::Outside, line) {
+        Ok(()) => Ok(true),
+        Err(error) => Err(error),
+    }
+}
+
 /// Takes the transaction back, as it is told.
 pub(crate) fn abort<V: Store>(
     client: &mut Client<'_>,
@@ -76,8 +89,7 @@ pub(crate) fn abort<V: Store>(
     ensures refuses { SaysStop core.old.system.state IsOutside IsAbort client.old result client.new }
 {
     let left = take_back(core, transaction.txn)?;
-    client.finish(State::Outside, told_line(left))?;
-    Ok(true)
+    close(client, told_line(left))
 }
 
 /// The block ends in the transaction, which is taken back.
@@ -95,8 +107,7 @@ pub(crate) fn end<V: Store>(
     ensures refuses { IsSome core.old.system.state.stop → OnOk result (SaysLine client.old IsOutside IsLeftOpen client.new) }
 {
     let left = take_back(core, transaction.txn)?;
-    client.finish(State::Outside, end_line(left))?;
-    Ok(true)
+    close(client, end_line(left))
 }
 
 // The client waits for the holder, to try the transaction again.

@@ -29,7 +29,7 @@ records-preserved g c =
       whole = c.next.ensures.whole;
       read = if_some_two _ _ _ (g.V.Store.told c.args.store.now) c.records.invariant.read (if_some_same _ _ _ c.records.invariant.reads.same goes)
           (λ fs read on. subst (IsReadTo fs.log c.next.new.self) (sym pushed) (read_on fs.log c.records.reader c.next.new.self c.in-Some.next on c.records.records.items read));
-      reads = reads_then _ _ _ _ _ _ _ c.records.invariant.reads c.next.ensures.reads;
+      reads = reads_then _ _ _ _ _ _ _ c.records.invariant.reads c.next.ensures.store.reads;
       passes = search rules;
       kept = search rules;
     }

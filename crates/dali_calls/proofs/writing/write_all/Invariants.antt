@@ -1,5 +1,5 @@
 use Rattle.std.proofs.Common.{◌≡◌, IsSomeAnd, IfSome}
-use Rattle.dali_core.specs.UnderWay.{IsUnderWay}
+use Rattle.dali_core.specs.UnderWay.{OneIsUnderWay}
 use Rattle.dali_calls.specs.Plans.{with_operation}
 use Rattle.dali_calls.specs.Operating.{AreWritten}
 use Rattle.dali_calls.proofs.Operating.{words_left}
@@ -7,7 +7,7 @@ use Rattle.dali_calls.proofs.writing.write_all.Given as goal
 
 abbrev pub invariant-loop : goal.invariant-loop
 invariant-loop l = record {
-  under_way : IsSomeAnd l.plan.operation (λ o. IsUnderWay o.txn o.block o.left o.taken l.region);
+  under_way : OneIsUnderWay l.plan.operation l.region;
   same : IfSome l.initial.plan.operation (λ o. IsSomeAnd l.plan.operation (λ p. (p.txn ≡ o.txn) × (p.block ≡ o.block)));
   rest : l.plan ≡ with_operation l.initial.plan l.plan.operation;
   written : AreWritten l.initial.region l.region;

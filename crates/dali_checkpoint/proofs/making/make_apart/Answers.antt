@@ -34,7 +34,7 @@ returns-in-Ok-write_image-clause-ok g c =
     made_by g.V.Store.told g.V.Store.may_leave g.V.Store.faults g.V.Store.lets_pass c.args.regions.now c.args.system.now.state c.start.new.system.state c.args.vault.now c.start.new.vault c.in-Ok.checkpoint
     c.requires.whole c.in-Ok.ensures.flag.0 (none_of_ok _ c.in-Ok.checkpoint (c.in-Ok.ensures.stopped c.in-Ok.ensures.flag.0)) c.in-Ok.ensures.ok (ap (λ (s : Served). s.state) c.in-Ok.ensures.flag.1) c.in-Ok.ensures.files
     c.write_image.new.regions c.write_image.new.system.state c.write_image.new.vault c.write_image.new.checkpoint c.in-Ok-write_image.verdict c.in-Ok-write_image.ensures.ok
-    c.certify.result c.write_image.new.system c.certify.new.system c.certify.new.vault refl c.certify.ensures.ok c.certify.ensures.turned c.certify.ensures.flag c.certify.ensures.files c.certify.ensures.calls c.in-Ok.ensures.calls
+    c.certify.result c.write_image.new.system c.certify.new.system c.certify.new.vault refl c.certify.ensures.ok c.certify.ensures.turned c.certify.ensures.flag c.certify.ensures.files c.certify.ensures.store.calls c.in-Ok.ensures.store.calls
 
 pub returns-in-Ok-write_image-clause-err : goal.returns-in-Ok-write_image-clause-err
 returns-in-Ok-write_image-clause-err g c =

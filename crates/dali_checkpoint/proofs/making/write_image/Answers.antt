@@ -28,7 +28,7 @@ returns-in-Ok-audit_all-clause-ok g c =
     c.in-Ok.ensures.ok c.requires.all c.requires.sizes
     c.settle.new.system.state c.settle.new.vault c.settle.new.self c.in-Ok-settle.ensures.ok (ap (λ (s : Served). s.state) c.in-Ok-settle.ensures.settled.1) c.in-Ok-settle.ensures.settled.0 c.in-Ok-settle.ensures.files
     c.audit_all.new.regions c.audit_all.new.system.state c.in-Ok-audit_all.verdict c.in-Ok-audit_all.ensures.verdict (ap (λ (s : Served). s.state) c.in-Ok-audit_all.ensures.ok.0) c.in-Ok-audit_all.ensures.ok.1 c.in-Ok-audit_all.ensures.room
-    number few c.in-Ok-settle.ensures.grows c.in-Ok-settle.ensures.calls
+    number few c.in-Ok-settle.ensures.grows c.in-Ok-settle.ensures.store.calls
 
 pub returns-in-Err-audit_all-clause-err : goal.returns-in-Err-audit_all-clause-err
 returns-in-Err-audit_all-clause-err g c =

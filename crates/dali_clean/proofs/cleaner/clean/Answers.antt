@@ -15,37 +15,35 @@ returns-in-Err-finish-clause-again c not =
     given_back c.args.regions.now c.claim.new.regions c.finish.new.regions c.args.system.now.state c.claim.new.system.state c.finish.new.system.state c.mark_dead.new.self.state c.args.txn c.in-Ok.ensures.ok.goes c.in-Err-finish.ensures.goes c.in-Err-finish.ensures.is
     (ap (λ (s : Served). s.state) c.mark_dead.ensures)
 
-pub returns-in-Ok-finish-clause-others : goal.returns-in-Ok-finish-clause-others
-returns-in-Ok-finish-clause-others c = others_further c.args.regions.now c.claim.new.regions c.finish.new.regions c.args.system.now.state c.claim.new.system.state c.finish.new.system.state c.args.txn c.claim.ensures.others c.finish.ensures.others
+pub returns-in-Ok-finish-clause-only : goal.returns-in-Ok-finish-clause-only
+returns-in-Ok-finish-clause-only c = record {
+  others = others_further c.args.regions.now c.claim.new.regions c.finish.new.regions c.args.system.now.state c.claim.new.system.state c.finish.new.system.state c.args.txn c.claim.ensures.others c.finish.ensures.only.others;
+  promises = promises_further c.args.system.now c.claim.new.system c.finish.new.system c.args.txn (promises_same c.args.system.now c.claim.new.system c.args.txn c.claim.ensures.kept.promised) c.finish.ensures.only.promises;
+  gone = c.in-Ok-finish.ensures.only.gone;
+  kept = tt;
+  flags = flags_further c.args.regions.now c.claim.new.regions c.finish.new.regions c.claim.ensures.flags c.finish.ensures.only.flags;
+}
 
-pub returns-in-Err-finish-clause-others : goal.returns-in-Err-finish-clause-others
-returns-in-Err-finish-clause-others c =
-    others_further c.args.regions.now c.finish.new.regions c.finish.new.regions c.args.system.now.state c.finish.new.system.state c.mark_dead.new.self.state c.args.txn
-    (others_further c.args.regions.now c.claim.new.regions c.finish.new.regions c.args.system.now.state c.claim.new.system.state c.finish.new.system.state c.args.txn c.claim.ensures.others c.finish.ensures.others)
-    (dead_others c.finish.new.regions c.finish.new.system.state c.mark_dead.new.self.state c.args.txn (ap (λ (s : Served). s.state) c.mark_dead.ensures))
+pub returns-in-Err-finish-clause-only : goal.returns-in-Err-finish-clause-only
+returns-in-Err-finish-clause-only c =
+    let dead = kept_in_state c.finish.new.system c.mark_dead.new.self c.args.txn (Dead None) c.mark_dead.ensures in
+    record {
+      others = others_further c.args.regions.now c.finish.new.regions c.finish.new.regions c.args.system.now.state c.finish.new.system.state c.mark_dead.new.self.state c.args.txn
+          (others_further c.args.regions.now c.claim.new.regions c.finish.new.regions c.args.system.now.state c.claim.new.system.state c.finish.new.system.state c.args.txn c.claim.ensures.others c.finish.ensures.only.others)
+          (dead_others c.finish.new.regions c.finish.new.system.state c.mark_dead.new.self.state c.args.txn (ap (λ (s : Served). s.state) c.mark_dead.ensures));
+      promises = promises_further c.args.system.now c.finish.new.system c.mark_dead.new.self c.args.txn
+          (promises_further c.args.system.now c.claim.new.system c.finish.new.system c.args.txn (promises_same c.args.system.now c.claim.new.system c.args.txn c.claim.ensures.kept.promised) c.finish.ensures.only.promises)
+          (promises_same c.finish.new.system c.mark_dead.new.self c.args.txn dead.promised);
+      gone = tt;
+      kept = kept_further c.args.system.now c.finish.new.system c.mark_dead.new.self (kept_further c.args.system.now c.claim.new.system c.finish.new.system c.claim.ensures.kept c.in-Err-finish.ensures.only.kept) dead;
+      flags = flags_further c.args.regions.now c.claim.new.regions c.finish.new.regions c.claim.ensures.flags c.finish.ensures.only.flags;
+    }
 
-pub returns-in-Err-clause-others : goal.returns-in-Err-clause-others
-returns-in-Err-clause-others c = c.claim.ensures.others
-
-pub returns-in-Ok-finish-clause-promises : goal.returns-in-Ok-finish-clause-promises
-returns-in-Ok-finish-clause-promises c = promises_further c.args.system.now c.claim.new.system c.finish.new.system c.args.txn (promises_same c.args.system.now c.claim.new.system c.args.txn c.claim.ensures.kept.promised) c.finish.ensures.promises
-
-pub returns-in-Err-finish-clause-promises : goal.returns-in-Err-finish-clause-promises
-returns-in-Err-finish-clause-promises c =
-    promises_further c.args.system.now c.finish.new.system c.mark_dead.new.self c.args.txn (promises_further c.args.system.now c.claim.new.system c.finish.new.system c.args.txn (promises_same c.args.system.now c.claim.new.system c.args.txn c.claim.ensures.kept.promised) c.finish.ensures.promises) (promises_same c.finish.new.system c.mark_dead.new.self c.args.txn (kept_in_state c.finish.new.system c.mark_dead.new.self c.args.txn (Dead None) c.mark_dead.ensures).promised)
-
-pub returns-in-Err-clause-promises : goal.returns-in-Err-clause-promises
-returns-in-Err-clause-promises c = promises_same c.args.system.now c.claim.new.system c.args.txn c.claim.ensures.kept.promised
-
-pub returns-in-Err-finish-clause-kept : goal.returns-in-Err-finish-clause-kept
-returns-in-Err-finish-clause-kept c =
-    kept_further c.args.system.now c.finish.new.system c.mark_dead.new.self (kept_further c.args.system.now c.claim.new.system c.finish.new.system c.claim.ensures.kept c.in-Err-finish.ensures.kept) (kept_in_state c.finish.new.system c.mark_dead.new.self c.args.txn (Dead None) c.mark_dead.ensures)
-
-pub returns-in-Err-clause-kept : goal.returns-in-Err-clause-kept
-returns-in-Err-clause-kept c = c.claim.ensures.kept
-
-pub returns-in-Ok-finish-clause-flags : goal.returns-in-Ok-finish-clause-flags
-returns-in-Ok-finish-clause-flags c = flags_further c.args.regions.now c.claim.new.regions c.finish.new.regions c.claim.ensures.flags c.finish.ensures.flags
-
-pub returns-in-Err-finish-clause-flags : goal.returns-in-Err-finish-clause-flags
-returns-in-Err-finish-clause-flags c = flags_further c.args.regions.now c.claim.new.regions c.finish.new.regions c.claim.ensures.flags c.finish.ensures.flags
+pub returns-in-Err-clause-only : goal.returns-in-Err-clause-only
+returns-in-Err-clause-only c = record {
+  others = c.claim.ensures.others;
+  promises = promises_same c.args.system.now c.claim.new.system c.args.txn c.claim.ensures.kept.promised;
+  gone = tt;
+  kept = c.claim.ensures.kept;
+  flags = c.claim.ensures.flags;
+}

@@ -3,9 +3,8 @@ use Rattle.std.specs.Prelude.{IsNone}
 use Rattle.std.proofs.lemmas.Result.{err_from_is_err_and}
 use Rattle.dali_lists.proofs.Options.{if_some_then}
 use Rattle.dali_batch.proofs.Finds.{if_some_two, if_some_same}
-use Rattle.dali_batch.proofs.Readings.{reads_then}
 use Rattle.dali_dump.proofs.Causes.{log_bad}
-use Rattle.dali_dump.proofs.Numbered.{first_dumped, dumped_on, all_dumped, dump_bad}
+use Rattle.dali_dump.proofs.Numbered.{first_dumped, dumps_next, all_dumped, dump_bad}
 use Rattle.dali_record.specs.declared.records.Record.TheVariants.{Format}
 use Rattle.dali_dump.specs.Lines.{record_line}
 use Rattle.dali_dump.proofs.dumping.dump.Goals as goal
@@ -25,42 +24,15 @@ returns-clause-dump g c =
 
 pub records-preserved : goal.records-preserved
 records-preserved g c =
-    let goes = rw c.in-Some.is at c.in_ok-next.ensures.read in
-    record {
-      whole = c.next.ensures.whole;
-      few = search rules;
-      dumped = if_some_two _ _ _ (g.V.Store.told c.args.store.now) c.records.invariant.dumped (if_some_same _ _ _ c.records.invariant.reads.same goes)
-          (λ fs so_far on. dumped_on fs.log c.records.reader c.next.new.self c.in-Some.next _ _ _ on so_far c.in_ok-put_line-2.ensures);
-      reads = reads_then _ _ _ _ _ _ _ c.records.invariant.reads c.next.ensures.reads;
-      passes = search rules;
-      kept = search rules;
-    }
+    dumps_next _ _ _ _ _ _ _ _ _ _ c.in-Some.next _ _ _ _ _ c.records.invariant c.in_ok-next.ensures.read c.in-Some.is c.in_ok-put_line-2.ensures c.next.ensures.whole (search rules) c.next.ensures.store.reads (search rules) (search rules)
 
 pub records-preserved-in_ok-put_line-2 : goal.records-preserved-in_ok-put_line-2
 records-preserved-in_ok-put_line-2 g c =
-    let goes = rw c.in-Some.is at c.in_ok-next.ensures.read in
-    record {
-      whole = c.next.ensures.whole;
-      few = search rules;
-      dumped = if_some_two _ _ _ (g.V.Store.told c.args.store.now) c.records.invariant.dumped (if_some_same _ _ _ c.records.invariant.reads.same goes)
-          (λ fs so_far on. dumped_on fs.log c.records.reader c.next.new.self c.in-Some.next _ _ _ on so_far c.in_ok-put_line-2.ensures);
-      reads = reads_then _ _ _ _ _ _ _ c.records.invariant.reads c.next.ensures.reads;
-      passes = search rules;
-      kept = search rules;
-    }
+    dumps_next _ _ _ _ _ _ _ _ _ _ c.in-Some.next _ _ _ _ _ c.records.invariant c.in_ok-next.ensures.read c.in-Some.is c.in_ok-put_line-2.ensures c.next.ensures.whole (search rules) c.next.ensures.store.reads (search rules) (search rules)
 
 pub records-preserved-in_ok-put_line-2-2 : goal.records-preserved-in_ok-put_line-2-2
 records-preserved-in_ok-put_line-2-2 g c =
-    let goes = rw c.in-Some.is at c.in_ok-next.ensures.read in
-    record {
-      whole = c.next.ensures.whole;
-      few = search rules;
-      dumped = if_some_two _ _ _ (g.V.Store.told c.args.store.now) c.records.invariant.dumped (if_some_same _ _ _ c.records.invariant.reads.same goes)
-          (λ fs so_far on. dumped_on fs.log c.records.reader c.next.new.self c.in-Some.next _ _ _ on so_far c.in_ok-put_line-2.ensures);
-      reads = reads_then _ _ _ _ _ _ _ c.records.invariant.reads c.next.ensures.reads;
-      passes = search rules;
-      kept = search rules;
-    }
+    dumps_next _ _ _ _ _ _ _ _ _ _ c.in-Some.next _ _ _ _ _ c.records.invariant c.in_ok-next.ensures.read c.in-Some.is c.in_ok-put_line-2.ensures c.next.ensures.whole (search rules) c.next.ensures.store.reads (search rules) (search rules)
 
 pub records-init : goal.records-init
 records-init g c =
@@ -72,7 +44,7 @@ records-init g c =
       few = omega (arith, c.in_ok-reader.ensures.further);
       dumped = if_some_then _ _ (g.V.Store.told c.args.store.now) first
           (λ fs is. first_dumped fs.log c.in_ok-reader.reader c.in_ok-reader.index c.in_ok-reader.heap c.put_line.new.into.items is (added ∙ ap (λ (l : List ℕ). l ++ record_line 0 (Format c.in_ok-reader.index c.in_ok-reader.heap)) empty));
-      reads = c.open.ensures.reads;
-      passes = c.open.ensures.passes;
-      kept = c.open.ensures.kept (search rules);
+      reads = c.open.ensures.store.reads;
+      passes = c.open.ensures.store.passes;
+      kept = c.open.ensures.store.kept (search rules);
     }

@@ -5,4 +5,4 @@ use Rattle.dali_ends.proofs.steps.end_commit.Goals as goal
 
 pub returns-in-Ok-clause-ok : goal.returns-in-Ok-clause-ok
 returns-in-Ok-clause-ok g c =
-    commit_ends g.V.Store.told g.V.Store.may_leave g.V.Store.faults c.args.txn c.args.core.now.regions.items c.args.core.now.system.state c.ended.new.self.state c.args.core.now.vault c.in-Ok.ensures.runs (ap (λ (x : Served). x.state) c.in-Ok.ensures.ok)
+    commit_ends g.V.Store.told g.V.Store.may_leave g.V.Store.faults c.args.txn c.args.core.now.regions.items c.args.core.now.system.state c.ended.new.self.state c.args.core.now.vault c.in-Ok.ensures.receipt.runs (ap (λ (x : Served). x.state) c.in-Ok.ensures.ok)

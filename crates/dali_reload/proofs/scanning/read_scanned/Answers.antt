@@ -37,7 +37,7 @@ records-preserved g c =
           (λ fs pass is s F image. pass_on fs.log s F c.args.known.now c.records.reader c.next_into.new.self c.records.recovery c.scan_known.new.recovery c.take_next.new.recovery c.records.counts c.in-Ok.more c.next_into.new.into (pass s F image)
           c.in_ok-scan_known.ensures.ok is c.in-Ok.ensures.ok.0 further small can c.in-Ok.ensures.ok.1);
       ordered = λ s o. c.in-Ok.ensures.ordered s (c.in_ok-scan_known.ensures.ordered s (c.records.invariant.ordered s o));
-      reads = reads_then _ _ _ _ _ _ _ c.records.invariant.reads c.next_into.ensures.reads;
+      reads = reads_then _ _ _ _ _ _ _ c.records.invariant.reads c.next_into.ensures.store.reads;
       passes = search rules;
       kept = search rules;
     }

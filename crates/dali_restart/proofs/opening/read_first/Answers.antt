@@ -16,5 +16,5 @@ returns-in-Err-current-clause-bad g c file at h =
     let b = image_bad c.in-Err-current.error file at (sym c.into-in-Err-current.ensures ∙ h) in
     let n = c.in-Err-current.ensures.bad file at b in
     let s : Sizes = record { index = c.in-Ok.opened.1.0; heap = c.in-Ok.opened.1.1 } in
-    if_some_two _ _ _ (g.V.Store.told c.args.store.now) c.in-Ok.ensures.first (if_some_same _ (g.V.Store.told c.args.store.now) (g.V.Store.told c.open.new.store) c.in-Ok.ensures.reads.same n.1)
+    if_some_two _ _ _ (g.V.Store.told c.args.store.now) c.in-Ok.ensures.first (if_some_same _ (g.V.Store.told c.args.store.now) (g.V.Store.told c.open.new.store) c.in-Ok.ensures.store.reads.same n.1)
     (λ fs first none. inr (record { sizes = s; log = begins_with fs s c.in-Ok.opened.0 c.in-Ok.ensures.spelled first; name = n.0; bad = none }))

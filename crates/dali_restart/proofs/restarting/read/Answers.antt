@@ -36,7 +36,7 @@ passes-preserved g c =
     let more = if_some_two _ _ _ (told c.args.store.now) c.passes.invariant.known (if_some_same _ _ _ c.passes.invariant.reads.same (subst (λ l. IfSome (told c.passes.store) (λ fs. FindsNext fs l d)) c.deref.ensures.value next)) (λ fs known next. one_more_known fs ds d c.passes.last known next) in
     record {
       known = subst (λ l. IfSome (told c.args.store.now) (λ fs. AreKnown fs l d.first)) (sym pushed) more;
-      reads = reads_then _ _ _ _ _ _ _ c.passes.invariant.reads c.pass.ensures.reads;
+      reads = reads_then _ _ _ _ _ _ _ c.passes.invariant.reads c.pass.ensures.store.reads;
       passes = search rules;
       kept = search rules;
     }

@@ -13,10 +13,10 @@ use Rattle.dali_restart.proofs.restarting.restart.Goals as goal
 -- the log isn't read
 pub returns-in-Err-clause-any_moment : goal.returns-in-Err-clause-any_moment
 returns-in-Err-clause-any_moment g c =
-    left_reading g.V.Store.told g.V.Store.may_leave g.V.Store.moment g.V.Store.left_since g.V.Store.faults g.V.Store.lets_pass c.args.store c.read.new.store c.read.ensures.reads c.read.ensures.later c.read.ensures.passes
+    left_reading g.V.Store.told g.V.Store.may_leave g.V.Store.moment g.V.Store.left_since g.V.Store.faults g.V.Store.lets_pass c.args.store c.read.new.store c.read.ensures.store.reads c.read.ensures.store.later c.read.ensures.store.passes
 
 pub returns-in-Err-clause-none : goal.returns-in-Err-clause-none
-returns-in-Err-clause-none g c = if_some_any _ (g.V.Store.told c.args.store) (λ fs without. c.read.ensures.reads)
+returns-in-Err-clause-none g c = if_some_any _ (g.V.Store.told c.args.store) (λ fs without. c.read.ensures.store.reads)
 
 -- nothing is written that is due, or not all of it
 pub returns-in-Err-settle-clause-long : goal.returns-in-Err-settle-clause-long
@@ -26,7 +26,7 @@ returns-in-Err-settle-clause-long g c h =
 
 pub returns-in-Err-settle-clause-reads : goal.returns-in-Err-settle-clause-reads
 returns-in-Err-settle-clause-reads g c no_fault no_memory =
-    subst (OnlyReads g.V.Store.told g.V.Store.moment g.V.Store.left_since g.V.Store.may_leave c.args.store) (sym (c.in-Err-settle.ensures.untouched (λ q. no_fault (err_same c.in-Err-settle.error errors.Fault q)))) c.read.ensures.reads
+    subst (OnlyReads g.V.Store.told g.V.Store.moment g.V.Store.left_since g.V.Store.may_leave c.args.store) (sym (c.in-Err-settle.ensures.store.untouched (λ q. no_fault (err_same c.in-Err-settle.error errors.Fault q)))) c.read.ensures.store.reads
 
 pub returns-in-Err-settle-clause-none : goal.returns-in-Err-settle-clause-none
 returns-in-Err-settle-clause-none g c = if_some_then _ _ (g.V.Store.told c.args.store) c.in-Ok.ensures.ok (λ fs is without. absurd (none_read fs _ c.in-Ok.found is without))
@@ -35,7 +35,7 @@ pub returns-in-Err-settle-clause-any_moment : goal.returns-in-Err-settle-clause-
 returns-in-Err-settle-clause-any_moment g c =
     let s = c.settle.new.store in
     left_settling g.V.Store.told g.V.Store.may_leave g.V.Store.moment g.V.Store.left_since g.V.Store.faults g.V.Store.lets_pass c.args.store c.read.new.store s (g.met.V.Store.counts_now s) (g.met.V.Store.reads_now s)
-    c.read.ensures.reads c.in-Ok.found c.in-Ok.ensures.ok c.settle.ensures.any_moment c.settle.ensures.tells c.read.ensures.later c.settle.ensures.later c.read.ensures.passes c.settle.ensures.passes
+    c.read.ensures.store.reads c.in-Ok.found c.in-Ok.ensures.ok c.settle.ensures.any_moment c.settle.ensures.store.tells c.read.ensures.store.later c.settle.ensures.store.later c.read.ensures.store.passes c.settle.ensures.store.passes
 
 -- no memory for a core
 pub returns-clause-any_moment : goal.returns-clause-any_moment
@@ -43,7 +43,7 @@ returns-clause-any_moment g c =
     let s = c.settle.new.store in
     subst (IsLeft g.V.Store.told g.V.Store.may_leave g.V.Store.moment g.V.Store.left_since g.V.Store.faults g.V.Store.lets_pass c.args.store) (sym c.in-Err-rise.ensures.refused)
     (left_settling g.V.Store.told g.V.Store.may_leave g.V.Store.moment g.V.Store.left_since g.V.Store.faults g.V.Store.lets_pass c.args.store c.read.new.store s (g.met.V.Store.counts_now s) (g.met.V.Store.reads_now s)
-    c.read.ensures.reads c.in-Ok.found c.in-Ok.ensures.ok c.settle.ensures.any_moment c.settle.ensures.tells c.read.ensures.later c.settle.ensures.later c.read.ensures.passes c.settle.ensures.passes)
+    c.read.ensures.store.reads c.in-Ok.found c.in-Ok.ensures.ok c.settle.ensures.any_moment c.settle.ensures.store.tells c.read.ensures.store.later c.settle.ensures.store.later c.read.ensures.store.passes c.settle.ensures.store.passes)
 
 pub returns-clause-none : goal.returns-clause-none
 returns-clause-none g c = if_some_then _ _ (g.V.Store.told c.args.store) c.in-Ok.ensures.ok (λ fs is without. absurd (none_read fs _ c.in-Ok.found is without))
@@ -64,13 +64,13 @@ returns-in-Ok-rise-clause-read g c =
 pub returns-in-Ok-rise-clause-begins : goal.returns-in-Ok-rise-clause-begins
 returns-in-Ok-rise-clause-begins g c =
     let core = c.in-Ok-rise.core in
-    if_some_two _ _ _ (g.V.Store.told c.args.store) c.in-Ok.ensures.ok (if_some_same _ _ _ c.read.ensures.reads.same c.in-Ok-settle.ensures.settles)
+    if_some_two _ _ _ (g.V.Store.told c.args.store) c.in-Ok.ensures.ok (if_some_same _ _ _ c.read.ensures.store.reads.same c.in-Ok-settle.ensures.settles)
     (λ fs is settles. begins_over g.V.Store.told g.V.Store.may_leave g.V.Store.faults c.args.limit c.requires.limit c.in-Ok.found c.in-Ok-settle.resting c.settle.new.store core.regions.items core.system core.vault _ c.deref.ensures.value c.in-Ok-rise.ensures.core c.in-Ok-rise.ensures.begins fs _ is settles)
 
 pub returns-in-Ok-rise-clause-rests : goal.returns-in-Ok-rise-clause-rests
 returns-in-Ok-rise-clause-rests g c =
     let core = c.in-Ok-rise.core in
-    if_some_two _ _ _ (g.V.Store.told c.args.store) c.in-Ok.ensures.ok (if_some_same _ _ _ c.read.ensures.reads.same c.in-Ok-settle.ensures.settles)
+    if_some_two _ _ _ (g.V.Store.told c.args.store) c.in-Ok.ensures.ok (if_some_same _ _ _ c.read.ensures.store.reads.same c.in-Ok-settle.ensures.settles)
     (λ fs is settles. rests_over g.V.Store.told g.V.Store.may_leave g.V.Store.faults c.args.limit c.requires.limit c.in-Ok.found c.in-Ok-settle.resting c.settle.new.store core.regions.items core.system core.vault _ c.deref.ensures.value c.in-Ok-rise.ensures.core c.in-Ok-rise.ensures.begins fs _ is settles)
 
 pub returns-in-Ok-rise-clause-any_moment : goal.returns-in-Ok-rise-clause-any_moment
@@ -78,14 +78,14 @@ returns-in-Ok-rise-clause-any_moment g c =
     let s = c.settle.new.store in
     subst (IsLeft g.V.Store.told g.V.Store.may_leave g.V.Store.moment g.V.Store.left_since g.V.Store.faults g.V.Store.lets_pass c.args.store) (sym (ap (λ v. v.store) c.in-Ok-rise.ensures.core.vault))
     (left_settling g.V.Store.told g.V.Store.may_leave g.V.Store.moment g.V.Store.left_since g.V.Store.faults g.V.Store.lets_pass c.args.store c.read.new.store s (g.met.V.Store.counts_now s) (g.met.V.Store.reads_now s)
-    c.read.ensures.reads c.in-Ok.found c.in-Ok.ensures.ok c.settle.ensures.any_moment c.settle.ensures.tells c.read.ensures.later c.settle.ensures.later c.read.ensures.passes c.settle.ensures.passes)
+    c.read.ensures.store.reads c.in-Ok.found c.in-Ok.ensures.ok c.settle.ensures.any_moment c.settle.ensures.store.tells c.read.ensures.store.later c.settle.ensures.store.later c.read.ensures.store.passes c.settle.ensures.store.passes)
 
 pub returns-in-Ok-rise-clause-idle : goal.returns-in-Ok-rise-clause-idle
 returns-in-Ok-rise-clause-idle g c =
     if_some_then _ _ (g.V.Store.told c.args.store) c.in-Ok.ensures.ok
     (λ fs is F spells finds rests.
     subst (OnlyReads g.V.Store.told g.V.Store.moment g.V.Store.left_since g.V.Store.may_leave c.args.store)
-    (sym (ap (λ v. v.store) c.in-Ok-rise.ensures.core.vault ∙ c.settle.ensures.idle (rests_idle fs F c.in-Ok.found spells finds is.reads rests))) c.read.ensures.reads)
+    (sym (ap (λ v. v.store) c.in-Ok-rise.ensures.core.vault ∙ c.settle.ensures.idle (rests_idle fs F c.in-Ok.found spells finds is.reads rests))) c.read.ensures.store.reads)
 
 pub returns-in-Ok-rise-clause-none : goal.returns-in-Ok-rise-clause-none
 returns-in-Ok-rise-clause-none g c = if_some_then _ _ (g.V.Store.told c.args.store) c.in-Ok.ensures.ok (λ fs is. none_read fs _ c.in-Ok.found is)

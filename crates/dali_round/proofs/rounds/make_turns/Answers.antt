@@ -31,36 +31,27 @@ loop-place-preserved g c =
       ];
     }
 
-pub returns-clause-goes : goal.returns-clause-goes
-returns-clause-goes g c = c.loop-place.invariant.goes
+pub returns-clause-turns : goal.returns-clause-turns
+returns-clause-turns g c = record {
+  goes = c.loop-place.invariant.goes;
+  places = c.loop-place.invariant.places;
+  longer = c.loop-place.invariant.longer;
+  any_moment = c.loop-place.invariant.moments;
+}
 
-pub returns-clause-places : goal.returns-clause-places
-returns-clause-places g c = c.loop-place.invariant.places
-
-pub returns-in_err-moved-clause-goes : goal.returns-in_err-moved-clause-goes
-returns-in_err-moved-clause-goes g c =
-    goes_as g.V.Store.told g.V.Store.may_leave g.V.Store.faults _ _ _ _ _ _ _ _ _ false (is_ok c.from_residual.result) (err_false c.from_residual.result c.from_residual.ensures.0)
-    (goes_on g.V.Store.told g.V.Store.may_leave g.V.Store.faults _ _ _ _ _ _ _ _ _ _ _ _ _ false c.loop-place.invariant.goes (halts_one g.V.Store.told g.V.Store.may_leave g.V.Store.faults _ _ _ _ _ _ _ _ _ _ _ (in_order c.args.order.now c.loop-place.place-index _ c.loop-place.clients c.args.clients.now c.requires.order c.loop-place-test.true c.loop-place.auto.clients) c.in_err-moved.ensures.goes))
-
-pub returns-in_err-moved-clause-places : goal.returns-in_err-moved-clause-places
-returns-in_err-moved-clause-places g c =
-    places_on g.V.Store.told _ _ _ _ _ _ _ _ (in_order c.args.order.now c.loop-place.place-index _ c.loop-place.clients c.args.clients.now c.requires.order c.loop-place-test.true c.loop-place.auto.clients) c.in_err-moved.ensures.places c.loop-place.invariant.places
-
-pub returns-clause-longer : goal.returns-clause-longer
-returns-clause-longer g c = c.loop-place.invariant.longer
-
-pub returns-in_err-moved-clause-longer : goal.returns-in_err-moved-clause-longer
-returns-in_err-moved-clause-longer g c = longer_on g.V.Store.told c.args.core.now.vault c.loop-place.core.vault c.make_turn.new.core.vault c.loop-place.invariant.longer c.in_err-moved.ensures.places.longer
+pub returns-in_err-moved-clause-turns : goal.returns-in_err-moved-clause-turns
+returns-in_err-moved-clause-turns g c = record {
+  goes =
+      goes_as g.V.Store.told g.V.Store.may_leave g.V.Store.faults _ _ _ _ _ _ _ _ _ false (is_ok c.from_residual.result) (err_false c.from_residual.result c.from_residual.ensures.0)
+      (goes_on g.V.Store.told g.V.Store.may_leave g.V.Store.faults _ _ _ _ _ _ _ _ _ _ _ _ _ false c.loop-place.invariant.goes (halts_one g.V.Store.told g.V.Store.may_leave g.V.Store.faults _ _ _ _ _ _ _ _ _ _ _ (in_order c.args.order.now c.loop-place.place-index _ c.loop-place.clients c.args.clients.now c.requires.order c.loop-place-test.true c.loop-place.auto.clients) c.in_err-moved.ensures.goes));
+  places = places_on g.V.Store.told _ _ _ _ _ _ _ _ (in_order c.args.order.now c.loop-place.place-index _ c.loop-place.clients c.args.clients.now c.requires.order c.loop-place-test.true c.loop-place.auto.clients) c.in_err-moved.ensures.places c.loop-place.invariant.places;
+  longer = longer_on g.V.Store.told c.args.core.now.vault c.loop-place.core.vault c.make_turn.new.core.vault c.loop-place.invariant.longer c.in_err-moved.ensures.places.longer;
+  any_moment =
+      ends_as g.V.Store.told g.V.Store.may_leave g.V.Store.faults g.V.Store.moment g.V.Store.left_since c.args.setting.now.precheck _ _ _ _ _ _ _ _ false (is_ok c.from_residual.result) (err_false c.from_residual.result c.from_residual.ensures.0)
+      (ends_cut g.V.Store.told g.V.Store.may_leave g.V.Store.faults g.V.Store.moment g.V.Store.left_since c.args.setting.now.precheck _ _ _ _ _ _ _ _ _ _ _ _ c.loop-place.invariant.longer c.loop-place.invariant.moments (move_cut g.V.Store.told g.V.Store.may_leave g.V.Store.faults g.V.Store.moment g.V.Store.left_since c.args.setting.now.precheck _ _ _ _ _ _ _ _ _ _ (in_order c.args.order.now c.loop-place.place-index _ c.loop-place.clients c.args.clients.now c.requires.order c.loop-place-test.true c.loop-place.auto.clients) c.in_err-moved.ensures.goes c.in_err-moved.ensures.any_moment));
+}
 
 pub returns-clause-idle : goal.returns-clause-idle
 returns-clause-idle g c = λ e.
     let none : c.loop-place.went_on ≡ false = cc in
     all_idle c.loop-place.core.system.state c.loop-place.clients c.args.order.now c.loop-place.place-index (length c.args.clients.now) c.loop-place.auto.clients c.requires.order (omega (arith, c.loop-place-test.false)) (c.loop-place.invariant.idle none)
-
-pub returns-clause-any_moment : goal.returns-clause-any_moment
-returns-clause-any_moment g c = c.loop-place.invariant.moments
-
-pub returns-in_err-moved-clause-any_moment : goal.returns-in_err-moved-clause-any_moment
-returns-in_err-moved-clause-any_moment g c =
-    ends_as g.V.Store.told g.V.Store.may_leave g.V.Store.faults g.V.Store.moment g.V.Store.left_since c.args.setting.now.precheck _ _ _ _ _ _ _ _ false (is_ok c.from_residual.result) (err_false c.from_residual.result c.from_residual.ensures.0)
-    (ends_cut g.V.Store.told g.V.Store.may_leave g.V.Store.faults g.V.Store.moment g.V.Store.left_since c.args.setting.now.precheck _ _ _ _ _ _ _ _ _ _ _ _ c.loop-place.invariant.longer c.loop-place.invariant.moments (move_cut g.V.Store.told g.V.Store.may_leave g.V.Store.faults g.V.Store.moment g.V.Store.left_since c.args.setting.now.precheck _ _ _ _ _ _ _ _ _ _ (in_order c.args.order.now c.loop-place.place-index _ c.loop-place.clients c.args.clients.now c.requires.order c.loop-place-test.true c.loop-place.auto.clients) c.in_err-moved.ensures.goes c.in_err-moved.ensures.any_moment))

@@ -1,4 +1,5 @@
-use Rattle.std.proofs.Common.{true, false, is_ok, Ok, refl, ap, sym, subst, ◌∙◌}
+use Rattle.std.proofs.Common.{◌≡◌, true, false, true≢false, is_ok, Ok, refl, ap, sym, subst, ◌∙◌}
+use Rattle.std.proofs.lemmas.Result.{IfOk-at_ok}
 use Rattle.dali_turns.proofs.Commands.{err_false}
 use Rattle.dali_round.specs.Idle.{IsOrder}
 use Rattle.dali_round.proofs.GoingOn.{idle_are_over}
@@ -15,47 +16,43 @@ make_turns-requires g c = record { places = c.loop.invariant.places; order = sub
 
 pub loop-preserved : goal.loop-preserved
 loop-preserved g c = record {
-  goes = goes_on g.V.Store.told g.V.Store.may_leave g.V.Store.faults _ _ _ _ _ _ _ _ _ _ _ _ _ true c.loop.invariant.goes c.in_ok-make_turns.ensures.goes;
-  places = c.in_ok-make_turns.ensures.places;
-  longer = longer_on g.V.Store.told c.args.core.now.vault c.loop.core.vault c.make_turns.new.core.vault c.loop.invariant.longer c.in_ok-make_turns.ensures.longer;
+  goes = goes_on g.V.Store.told g.V.Store.may_leave g.V.Store.faults _ _ _ _ _ _ _ _ _ _ _ _ _ true c.loop.invariant.goes c.in_ok-make_turns.ensures.turns.goes;
+  places = c.in_ok-make_turns.ensures.turns.places;
+  longer = longer_on g.V.Store.told c.args.core.now.vault c.loop.core.vault c.make_turns.new.core.vault c.loop.invariant.longer c.in_ok-make_turns.ensures.turns.longer;
   size = c.make_turns.auto.clients ∙ c.loop.invariant.size;
-  moments = ends_on g.V.Store.told g.V.Store.may_leave g.V.Store.faults g.V.Store.moment g.V.Store.left_since c.args.setting.now.precheck _ _ _ _ _ _ _ _ _ _ _ _ c.loop.invariant.longer c.loop.invariant.moments c.in_ok-make_turns.ensures.any_moment;
+  moments = ends_on g.V.Store.told g.V.Store.may_leave g.V.Store.faults g.V.Store.moment g.V.Store.left_since c.args.setting.now.precheck _ _ _ _ _ _ _ _ _ _ _ _ c.loop.invariant.longer c.loop.invariant.moments c.in_ok-make_turns.ensures.turns.any_moment;
 }
 
-pub returns-in_err-make_turns-clause-goes : goal.returns-in_err-make_turns-clause-goes
-returns-in_err-make_turns-clause-goes g c =
-    goes_as g.V.Store.told g.V.Store.may_leave g.V.Store.faults _ _ _ _ _ _ _ _ _ false (is_ok c.from_residual.result) (err_false c.from_residual.result c.from_residual.ensures.0)
-    (goes_on g.V.Store.told g.V.Store.may_leave g.V.Store.faults _ _ _ _ _ _ _ _ _ _ _ _ _ false c.loop.invariant.goes c.in_err-make_turns.ensures.goes)
+pub returns-in_err-make_turns-clause-turns : goal.returns-in_err-make_turns-clause-turns
+returns-in_err-make_turns-clause-turns g c = record {
+  goes =
+      goes_as g.V.Store.told g.V.Store.may_leave g.V.Store.faults _ _ _ _ _ _ _ _ _ false (is_ok c.from_residual.result) (err_false c.from_residual.result c.from_residual.ensures.0)
+      (goes_on g.V.Store.told g.V.Store.may_leave g.V.Store.faults _ _ _ _ _ _ _ _ _ _ _ _ _ false c.loop.invariant.goes c.in_err-make_turns.ensures.turns.goes);
+  places = c.in_err-make_turns.ensures.turns.places;
+  longer = longer_on g.V.Store.told c.args.core.now.vault c.loop.core.vault c.make_turns.new.core.vault c.loop.invariant.longer c.in_err-make_turns.ensures.turns.longer;
+  any_moment =
+      ends_as g.V.Store.told g.V.Store.may_leave g.V.Store.faults g.V.Store.moment g.V.Store.left_since c.args.setting.now.precheck _ _ _ _ _ _ _ _ false (is_ok c.from_residual.result) (err_false c.from_residual.result c.from_residual.ensures.0)
+      (ends_cut g.V.Store.told g.V.Store.may_leave g.V.Store.faults g.V.Store.moment g.V.Store.left_since c.args.setting.now.precheck _ _ c.make_turns.new.clients _ _ _ _ _ _ _ _ _ c.loop.invariant.longer c.loop.invariant.moments c.in_err-make_turns.ensures.turns.any_moment);
+}
 
-pub returns-clause-goes : goal.returns-clause-goes
-returns-clause-goes g c = goes_cut g.V.Store.told g.V.Store.may_leave g.V.Store.faults _ _ _ _ _ _ _ _ _ c.loop.invariant.goes
+pub returns-clause-turns : goal.returns-clause-turns
+returns-clause-turns g c = record {
+  goes = goes_cut g.V.Store.told g.V.Store.may_leave g.V.Store.faults _ _ _ _ _ _ _ _ _ c.loop.invariant.goes;
+  places = c.loop.invariant.places;
+  longer = c.loop.invariant.longer;
+  any_moment = ends_short g.V.Store.told g.V.Store.may_leave g.V.Store.faults g.V.Store.moment g.V.Store.left_since c.args.setting.now.precheck _ _ _ _ _ _ _ _ c.loop.invariant.moments;
+}
 
-pub returns-then-not-branch-clause-goes : goal.returns-then-not-branch-clause-goes
-returns-then-not-branch-clause-goes g c =
-    goes_on g.V.Store.told g.V.Store.may_leave g.V.Store.faults _ _ _ _ _ _ _ _ _ _ _ _ _ true c.loop.invariant.goes c.in_ok-make_turns.ensures.goes
+pub returns-then-not-branch-clause-turns : goal.returns-then-not-branch-clause-turns
+returns-then-not-branch-clause-turns g c = record {
+  goes = goes_on g.V.Store.told g.V.Store.may_leave g.V.Store.faults _ _ _ _ _ _ _ _ _ _ _ _ _ true c.loop.invariant.goes c.in_ok-make_turns.ensures.turns.goes;
+  places = c.in_ok-make_turns.ensures.turns.places;
+  longer = longer_on g.V.Store.told c.args.core.now.vault c.loop.core.vault c.make_turns.new.core.vault c.loop.invariant.longer c.in_ok-make_turns.ensures.turns.longer;
+  any_moment = ends_on g.V.Store.told g.V.Store.may_leave g.V.Store.faults g.V.Store.moment g.V.Store.left_since c.args.setting.now.precheck _ _ _ _ _ _ _ _ _ _ _ _ c.loop.invariant.longer c.loop.invariant.moments c.in_ok-make_turns.ensures.turns.any_moment;
+}
 
 pub returns-then-not-branch-clause-stuck : goal.returns-then-not-branch-clause-stuck
 returns-then-not-branch-clause-stuck g c = λ e s p bs f.
-    let played = goes_on g.V.Store.told g.V.Store.may_leave g.V.Store.faults _ _ _ _ _ _ _ _ _ _ _ _ _ true c.loop.invariant.goes c.in_ok-make_turns.ensures.goes s p bs f in
+    let played = goes_on g.V.Store.told g.V.Store.may_leave g.V.Store.faults _ _ _ _ _ _ _ _ _ _ _ _ _ true c.loop.invariant.goes c.in_ok-make_turns.ensures.turns.goes s p bs f in
     let over = c.are_over.ensures.always (idle_are_over g.V.Store.told g.V.Store.may_leave g.V.Store.faults c.args.setting.now.precheck s p bs _ _ _ _ played (c.make_turns.ensures.idle (c.in_ok-make_turns.was ∙ ap Ok c.if-not-branch.true))) in
-    absurd (cc)
-
-pub returns-in_err-make_turns-clause-longer : goal.returns-in_err-make_turns-clause-longer
-returns-in_err-make_turns-clause-longer g c = longer_on g.V.Store.told c.args.core.now.vault c.loop.core.vault c.make_turns.new.core.vault c.loop.invariant.longer c.in_err-make_turns.ensures.longer
-
-pub returns-clause-longer : goal.returns-clause-longer
-returns-clause-longer g c = c.loop.invariant.longer
-
-pub returns-then-not-branch-clause-longer : goal.returns-then-not-branch-clause-longer
-returns-then-not-branch-clause-longer g c = longer_on g.V.Store.told c.args.core.now.vault c.loop.core.vault c.make_turns.new.core.vault c.loop.invariant.longer c.in_ok-make_turns.ensures.longer
-
-pub returns-clause-any_moment : goal.returns-clause-any_moment
-returns-clause-any_moment g c = ends_short g.V.Store.told g.V.Store.may_leave g.V.Store.faults g.V.Store.moment g.V.Store.left_since c.args.setting.now.precheck _ _ _ _ _ _ _ _ c.loop.invariant.moments
-
-pub returns-then-not-branch-clause-any_moment : goal.returns-then-not-branch-clause-any_moment
-returns-then-not-branch-clause-any_moment g c = ends_on g.V.Store.told g.V.Store.may_leave g.V.Store.faults g.V.Store.moment g.V.Store.left_since c.args.setting.now.precheck _ _ _ _ _ _ _ _ _ _ _ _ c.loop.invariant.longer c.loop.invariant.moments c.in_ok-make_turns.ensures.any_moment
-
-pub returns-in_err-make_turns-clause-any_moment : goal.returns-in_err-make_turns-clause-any_moment
-returns-in_err-make_turns-clause-any_moment g c =
-    ends_as g.V.Store.told g.V.Store.may_leave g.V.Store.faults g.V.Store.moment g.V.Store.left_since c.args.setting.now.precheck _ _ _ _ _ _ _ _ false (is_ok c.from_residual.result) (err_false c.from_residual.result c.from_residual.ensures.0)
-    (ends_cut g.V.Store.told g.V.Store.may_leave g.V.Store.faults g.V.Store.moment g.V.Store.left_since c.args.setting.now.precheck _ _ c.make_turns.new.clients _ _ _ _ _ _ _ _ _ c.loop.invariant.longer c.loop.invariant.moments c.in_err-make_turns.ensures.any_moment)
+    absurd (true≢false (sym over ∙ sym (IfOk-at_ok (λ b. b ≡ c.are_over.result) e refl)))

@@ -29,7 +29,7 @@ returns-clause-ok c =
     let same : c.ready.new.self.state ≡ c.args.system.now.state = ap (λ (s : Served). s.state) c.in_ok-removals.ensures.ok in
     commit_led c.args.system.now.state c.commit.new.self.state c.args.txn c.in_ok-removals.removals.items c.requires.lives c.in_ok-removals.ensures.removals
     (ap (λ (s : Served). s.state) c.in_ok-commit.ensures.ok ∙ ap (λ (y : SystemState). commit_logged y c.args.txn) same)
-    (ap (λ (y : SystemState). y.stop) (sym same) ∙ c.in_ok-commit.ensures.runs)
+    (ap (λ (y : SystemState). y.stop) (sym same) ∙ c.in_ok-commit.ensures.receipt.runs)
 
 pub returns-clause-committed : goal.returns-clause-committed
 returns-clause-committed c =

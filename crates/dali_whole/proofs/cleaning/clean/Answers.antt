@@ -2,10 +2,9 @@ use Rattle.std.proofs.Common.{◌≡◌, List, Some, None, IfErr, OnOk, IsErrOf,
 use Rattle.dali_att.specs.declared.state.State.TheVariants.{Dead}
 use Rattle.dali_region.specs.State.{RegionState}
 use Rattle.dali_system.specs.State.{state_of}
-use Rattle.dali_calls.specs.Flags.{FlagsStay}
 use Rattle.dali_clean.specs.declared.error.CleanError.TheVariants.{NotDead as IsNotDead}
 use Rattle.dali_clean.specs.Cleaned.{AreDead, MayClean, IsDead, Ends, GivesBack}
-use Rattle.dali_clean.specs.Others.{OthersStay}
+use Rattle.dali_clean.specs.Others.{CleansOnly}
 use Rattle.dali_whole.specs.Cleaned.{EndsAt, LeavesAt}
 use Rattle.dali_whole.proofs.CleanedUp.{of_vector}
 use Rattle.dali_whole.proofs.cleaning.clean.Goals as goal
@@ -45,12 +44,7 @@ returns-clause-dead g c =
     let size : length c.clean_up.new.regions ≡ c.args.core.now.regions.len = search rules in
     of_vector (λ (rs hs : List RegionState). AreDead rs → AreDead hs) c.args.core.now.regions.len c.args.core.now.regions.items c.deref_mut.result.now c.clean_up.new.regions size c.deref_mut.ensures.value c.clean_up.ensures.dead
 
-pub returns-clause-others : goal.returns-clause-others
-returns-clause-others g c =
+pub returns-clause-only : goal.returns-clause-only
+returns-clause-only g c =
     let size : length c.clean_up.new.regions ≡ c.args.core.now.regions.len = search rules in
-    of_vector (λ (rs hs : List RegionState). OthersStay rs c.args.core.now.system.state c.args.txn hs c.clean_up.new.system.state) c.args.core.now.regions.len c.args.core.now.regions.items c.deref_mut.result.now c.clean_up.new.regions size c.deref_mut.ensures.value c.clean_up.ensures.others
-
-pub returns-clause-flags : goal.returns-clause-flags
-returns-clause-flags g c =
-    let size : length c.clean_up.new.regions ≡ c.args.core.now.regions.len = search rules in
-    of_vector (λ (rs hs : List RegionState). FlagsStay rs hs) c.args.core.now.regions.len c.args.core.now.regions.items c.deref_mut.result.now c.clean_up.new.regions size c.deref_mut.ensures.value c.clean_up.ensures.flags
+    of_vector (λ (rs hs : List RegionState). CleansOnly rs c.args.core.now.system c.args.txn c.clean_up.result hs c.clean_up.new.system) c.args.core.now.regions.len c.args.core.now.regions.items c.deref_mut.result.now c.clean_up.new.regions size c.deref_mut.ensures.value c.clean_up.ensures.only

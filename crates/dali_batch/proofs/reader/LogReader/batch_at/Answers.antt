@@ -15,7 +15,7 @@ returns-then-part-clause-none g c = λ none.
 
 pub returns-then-not-branch-2-clause-bad : goal.returns-then-not-branch-2-clause-bad
 returns-then-not-branch-2-clause-bad g c = λ bad e.
-    let short = if_some_same _ _ _ c.need.ensures.reads.same (c.in_ok-need-2.ensures.short c.if-not-branch-2.true) in
+    let short = if_some_same _ _ _ c.need.ensures.store.reads.same (c.in_ok-need-2.ensures.short c.if-not-branch-2.true) in
     if_some_two _ _ _ (g.V.Store.told c.args.store.now) c.in_ok-need.ensures.window short (λ fs opens less window.
     let p = part_of fs.log c.need.new.self c.args.at 1 (opens window) (c.in_ok-need.ensures.whole c.if-not-branch.false).0 in
     inr (cut_length fs.log c.args.at (open_read fs.log c.part.result.now c.args.at p.0 (c.part.ensures ∙ p.1) c.if-part.false) (less (opens window)), cc))
@@ -27,7 +27,7 @@ returns-then-size-eq0-clause-bad g c = λ bad e.
       | then-size-eq0-via-then-size-eq0 w ↦ inl w.if-size-eq0.true
       | then-size-eq0-via-else-size-eq0+then-size-gt-MOST_BYTES w ↦ inr w.if-size-gt-MOST_BYTES.true
     ] in
-    let later = if_some_same _ _ _ c.need.ensures.reads.same c.in_ok-need-2.ensures.window in
+    let later = if_some_same _ _ _ c.need.ensures.store.reads.same c.in_ok-need-2.ensures.window in
     if_some_two _ _ _ (g.V.Store.told c.args.store.now) c.in_ok-need.ensures.window later (λ fs opens then window.
     let p = part_of fs.log c.need.new.self c.args.at 1 (opens window) (c.in_ok-need.ensures.whole c.if-not-branch.false).0 in
     let q = part_of fs.log c.need-2.new.self (c.args.at + 1) 4 (then (opens window)) (c.in_ok-need-2.ensures.whole c.if-not-branch-2.false).0 in
@@ -38,8 +38,8 @@ returns-then-size-eq0-clause-bad g c = λ bad e.
 pub returns-then-not-branch-3-clause-bad : goal.returns-then-not-branch-3-clause-bad
 returns-then-not-branch-3-clause-bad g c = λ bad e.
     let size = c.number_of-size.result in
-    let later = if_some_same _ _ _ c.need.ensures.reads.same c.in_ok-need-2.ensures.window in
-    let short = if_some_same _ _ _ (c.need-2.ensures.reads.same ∙ c.need.ensures.reads.same) (c.in_ok-need-3.ensures.short c.if-not-branch-3.true) in
+    let later = if_some_same _ _ _ c.need.ensures.store.reads.same c.in_ok-need-2.ensures.window in
+    let short = if_some_same _ _ _ (c.need-2.ensures.store.reads.same ∙ c.need.ensures.store.reads.same) (c.in_ok-need-3.ensures.short c.if-not-branch-3.true) in
     let windows = if_some_two _ _ (λ (fs : Files). IsWindow fs.log c.args.self.now → IsWindow fs.log c.need.new.self × IsWindow fs.log c.need-2.new.self) (g.V.Store.told c.args.store.now) c.in_ok-need.ensures.window later (λ fs opens then window. (opens window, then (opens window))) in
     if_some_two _ _ _ (g.V.Store.told c.args.store.now) windows short (λ fs opens less window.
     let w = opens window in
@@ -51,8 +51,8 @@ returns-then-not-branch-3-clause-bad g c = λ bad e.
 pub returns-clause-batch : goal.returns-clause-batch
 returns-clause-batch g c =
     let size = c.number_of-size.result in
-    let later = if_some_same _ _ _ c.need.ensures.reads.same c.in_ok-need-2.ensures.window in
-    let last = if_some_same _ _ _ (c.need-2.ensures.reads.same ∙ c.need.ensures.reads.same) c.in_ok-need-3.ensures.window in
+    let later = if_some_same _ _ _ c.need.ensures.store.reads.same c.in_ok-need-2.ensures.window in
+    let last = if_some_same _ _ _ (c.need-2.ensures.store.reads.same ∙ c.need.ensures.store.reads.same) c.in_ok-need-3.ensures.window in
     let windows = if_some_two _ _ (λ (fs : Files). IsWindow fs.log c.args.self.now → IsWindow fs.log c.need.new.self × IsWindow fs.log c.need-2.new.self) (g.V.Store.told c.args.store.now) c.in_ok-need.ensures.window later (λ fs opens then window. (opens window, then (opens window))) in
     if_some_two _ _ _ (g.V.Store.told c.args.store.now) windows last (λ fs opens then window.
     let w = opens window in

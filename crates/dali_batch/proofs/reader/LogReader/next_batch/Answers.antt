@@ -4,7 +4,6 @@ use Rattle.dali_lists.proofs.Options.{if_some_then}
 use Rattle.dali_batch.specs.Finding.{IsBad, BatchAt}
 use Rattle.dali_batch.specs.Stream.{Reading, IsWindow}
 use Rattle.dali_batch.proofs.Finds.{if_some_two}
-use Rattle.dali_batch.proofs.Fronts.{log_bad}
 use Rattle.dali_batch.proofs.Streaming.{bad_batch, batch_begun}
 use Rattle.dali_batch.proofs.reader.LogReader.next_batch.Goals as goal
 
@@ -12,7 +11,7 @@ pub returns-in_err-size-clause-bad : goal.returns-in_err-size-clause-bad
 returns-in_err-size-clause-bad g c =
     let p = err_from_is_err_and c.from_residual.result c.from_residual.ensures.1 in
     rw (p.1, p.2) (λ bad e.
-    if_some_then _ _ (g.V.Store.told c.args.store.now) (c.in_err-size.ensures.bad bad (log_bad c.in_err-size.field-0.0 bad e))
+    if_some_then _ _ (g.V.Store.told c.args.store.now) (c.in_err-size.ensures.bad bad e)
     (λ fs is start front done read. bad_batch fs.log c.args.self.now c.args.self.now bad c.requires.read (subst (λ (r : Reading). IsBad fs.log r.end bad) c.self.view_is (is read.window)) start front done read))
 
 pub returns-clause-stands : goal.returns-clause-stands

@@ -3,6 +3,7 @@ use Rattle.std.proofs.lemmas.Result.{err_from_is_err_and}
 use Rattle.dali_lists.proofs.Options.{if_some_then}
 use Rattle.dali_batch.specs.Stream.{IsReadFrom}
 use Rattle.dali_batch.proofs.Finds.{if_some_any}
+use Rattle.dali_batch.proofs.Fronts.{log_bad}
 use Rattle.dali_batch.proofs.reader.LogReader.next_into.Goals as goal
 
 pub returns-in_err-next_record-clause-bad : goal.returns-in_err-next_record-clause-bad
@@ -12,6 +13,11 @@ returns-in_err-next_record-clause-bad g c =
 
 pub returns-then-self-clause-read : goal.returns-then-self-clause-read
 returns-then-self-clause-read g c = λ more. if_some_any _ (g.V.Store.told c.args.store.now) (λ fs start front done read. c.in_ok-next_record.ensures.read fs.log start front done read)
+
+pub returns-in_err-next_batch-clause-bad : goal.returns-in_err-next_batch-clause-bad
+returns-in_err-next_batch-clause-bad g c =
+    let p = err_from_is_err_and c.from_residual-in_err-next_batch.result c.from_residual-in_err-next_batch.ensures.1 in
+    rw (p.1, p.2) (λ bad e. c.in_err-next_batch.ensures.bad bad (log_bad c.in_err-next_batch.field-0.0 bad e))
 
 pub returns-in_err-next_record-2-clause-bad : goal.returns-in_err-next_record-2-clause-bad
 returns-in_err-next_record-2-clause-bad g c =

@@ -1,4 +1,4 @@
-use Rattle.std.proofs.Common.{arith, ap, sym, ◌∙◌}
+use Rattle.std.proofs.Common.{◌≡◌, ◌+◌, arith, ap, sym, ◌∙◌}
 use Rattle.std.specs.FinMap.{insert}
 use Rattle.dali_core.specs.Promised.{Promised, total}
 use Rattle.dali_core.specs.Journaled.{Journaled}
@@ -20,10 +20,11 @@ pub returns-in_err-make_room-clause-err : goal.returns-in_err-make_room-clause-e
 returns-in_err-make_room-clause-err c = on_err c.from_residual-in_err-make_room.result _ (view_same c.self.inside.bytes.items c.make_room.new.bytes.items c.self.inside.spelled c.in_err-make_room.self-1-own.given.0 c.self.inside.taken c.self.inside.promises c.args.self.now c.in_err-make_room.ensures.same.0 c.self.view_is)
 
 pub invariant_of-self-2 : goal.invariant_of-self-2
-invariant_of-self-2 c = (
-  kept_same c.self.inside.bytes.items c.make_room.new.bytes.items c.self.inside.spelled c.self-2-1.given.0 c.self.inside.frame c.make_room.new.frame c.self.inside.count c.self.inside.taken c.in_ok-make_room.ensures.same.0 c.in_ok-make_room.ensures.same.2 c.in_ok-make_room.ensures.same.3 c.self.invariant.0,
-  same_memory _ _ _ _ _ (c.in_ok-all.ensures ∙ ap total (sym c.in_ok-set.ensures.ok)) c.in_ok-make_room.ensures.ok,
-)
+invariant_of-self-2 c =
+    let sum : 0 + c.in_ok-all.all ≡ total c.set.new.self = omega (arith, c.in_ok-all.ensures ∙ ap total (sym c.in_ok-set.ensures.ok)) in (
+      kept_same c.self.inside.bytes.items c.make_room.new.bytes.items c.self.inside.spelled c.self-2-1.given.0 c.self.inside.frame c.make_room.new.frame c.self.inside.count c.self.inside.taken c.in_ok-make_room.ensures.same.0 c.in_ok-make_room.ensures.same.2 c.in_ok-make_room.ensures.same.3 c.self.invariant.0,
+      same_memory _ _ _ _ _ sum c.in_ok-make_room.ensures.ok,
+    )
 
 pub returns-clause-ok : goal.returns-clause-ok
 returns-clause-ok c =

@@ -6,8 +6,5 @@ use Rattle.dali_core.proofs.promises.Promises.all_but.Goals as goal
 pub overflow_sub-result : goal.overflow_sub-result
 overflow_sub-result c = omega (arith, c.to-to.ensures, c.self.invariant, ap total c.self.view_is, part c.args.self.now c.args.txn)
 
-pub returns-clause-left : goal.returns-clause-left
-returns-clause-left c = omega (arith, c.to-to.ensures, c.saturating_sub.ensures, c.self.invariant, ap total c.self.view_is, part c.args.self.now c.args.txn, total_used c.args.self.now c.args.txn c.args.by)
-
-pub returns-clause-enough : goal.returns-clause-enough
-returns-clause-enough c n few has = omega (arith, few, has, c.to-to.ensures, c.saturating_sub.ensures, c.self.invariant, ap total c.self.view_is, part c.args.self.now c.args.txn)
+pub returns : goal.returns
+returns c = omega (arith, c.to-to.ensures, c.saturating_sub.ensures, c.self.invariant, ap total c.self.view_is, part c.args.self.now c.args.txn, total_used c.args.self.now c.args.txn c.args.by)

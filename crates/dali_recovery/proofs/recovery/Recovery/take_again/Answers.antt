@@ -4,7 +4,7 @@ use Rattle.std.proofs.Common.{refl}
 use Rattle.dali_recovery.proofs.recovery.Recovery.take_again.Goals as goal
 
 pub returns-clause-ok : goal.returns-clause-ok
-returns-clause-ok c = takes_again c.args.self.now c.pass.new.self c.make.new.redo c.make.new.scan c.args.logged.now c.requires.tested c.if-self.false c.in_ok-make.ensures.ok c.pass.ensures.passed
+returns-clause-ok c = takes_again c.args.self.now c.pass.new.self c.make.new.redo c.make.new.scan c.args.logged.now c.requires.tested c.in_ok-goes_on.ensures.ok c.in_ok-make.ensures.ok c.pass.ensures.passed
 
 pub returns-clause-ordered : goal.returns-clause-ordered
 returns-clause-ordered c = λ spelled. keeps_again c.args.self.now c.pass.new.self c.make.new.redo c.make.new.scan c.args.logged.now c.in_ok-make.ensures.ordered c.pass.ensures.ordered

@@ -1,4 +1,4 @@
-use Rattle.std.proofs.Common.{◌≡◌, ◌∙◌, ◌<◌, ◌^◌, false, true, refl, ap, subst, rules}
+use Rattle.std.proofs.Common.{◌≡◌, ◌∙◌, ◌<◌, ◌^◌, true, refl, ap, subst, rules}
 use Rattle.dali_system.specs.State.{SystemState}
 use Rattle.dali_system.specs.Steps.{taken}
 use Rattle.dali_core.specs.Served.{Served}
@@ -11,7 +11,7 @@ use Rattle.dali_turns.specs.Clients.{Finishes}
 use Rattle.dali_turns.proofs.Putting.{err_on}
 use Rattle.dali_turns.proofs.Commands.{err_false}
 use Rattle.dali_turns.proofs.AuditSteps.{may_end, ends_goes, ends_silent_goes, fails_goes, fails_silent_goes, stops_goes, stops_silent_goes, no_end_goes}
-use Rattle.dali_turns.proofs.Guarding.{goes_from, never_goes, both, vault_small, still_runs}
+use Rattle.dali_turns.proofs.Guarding.{goes_running, never_goes, both, vault_small}
 use Rattle.dali_turns.proofs.Placing.{still_outside, longer_outside, flush_keeps}
 use Rattle.dali_turns.proofs.Moments.{leaves_still}
 use Rattle.dali_turns.proofs.AuditMoments.{end_leaves}
@@ -92,42 +92,36 @@ returns-in_ok-finish-in-Ok-flush g c =
     }
 
 pub returns-in_err-finish-in-Err-flush : goal.returns-in_err-finish-in-Err-flush
-returns-in_err-finish-in-Err-flush g c =
-    let same : c.flush.new.core.regions.items ≡ c.args.core.now.regions.items =
-    flush_keeps c.in-Err-flush.field-0 c.args.core.now.vault.stopped c.flush.new.core.regions.items c.args.core.now.regions.items c.in-Err-flush.ensures.runs (λ stops. ap (λ k. k.regions.items) (c.flush.ensures.stopped stops).1) (λ only. ap (λ k. k.regions.items) (c.in-Err-flush.ensures.fault only).0) in
-    record {
-      goes = λ precheck.
-          goes_from g.V.Store.told g.V.Store.may_leave g.V.Store.faults precheck (IsAuditing c.args.audit c.args.next) c.args.client.now c.args.core.now.regions.items c.args.core.now.system.state c.args.core.now.vault (c.args.core.now.vault.stopped ≡ false) _ _ _ _ _ (still_runs g.V.Store.told g.V.Store.may_leave g.V.Store.faults precheck (IsAuditing c.args.audit c.args.next) c.args.client.now c.args.core.now.regions.items c.args.core.now.system.state c.args.core.now.vault c.in-Ok.ensures.runs) (λ running.
-          let only = fault_only c.in-Err-flush.field-0 c.args.core.now.vault.stopped c.in-Err-flush.ensures.runs running in
-          let core_is = (c.in-Err-flush.ensures.fault only).0 in
-          fails_silent_goes g.V.Store.told g.V.Store.may_leave g.V.Store.faults precheck c.args.client.now c.finish-in-Err-flush.new.self c.args.core.now.regions.items c.args.core.now.system.state c.args.core.now.vault c.args.audit c.args.next
-          c.requires.all c.flush.new.core.regions.items (ap (λ k. k.regions.items) core_is) c.flush.new.core.system.state c.end.new.system.state c.flush.new.core.vault c.in-Ok.ensures.runs (ap (λ (s : Served). s.state) c.in-Ok.ensures.ok) c.flush.ensures.whole
-          (ap (λ k. k.system.state) core_is) (ap (λ k. k.vault.stopped) core_is) (c.in-Err-flush.ensures.stops only)
-          _ (err_false c.from_residual-in_err-finish-in-Err-flush.result c.from_residual-in_err-finish-in-Err-flush.ensures.0) c.in_err-finish-in-Err-flush.ensures.err);
-      places = longer_outside _ _ _ _ _ _ _ same c.flush.ensures.files c.in_err-finish-in-Err-flush.ensures.err.stands;
-      on = err_on c.from_residual-in_err-finish-in-Err-flush.result c.from_residual-in_err-finish-in-Err-flush.ensures.0;
-      any_moment = end_leaves g.V.Store.told g.V.Store.may_leave g.V.Store.faults g.V.Store.moment g.V.Store.left_since c.args.client.now c.args.core.now.regions.items c.args.core.now.system.state c.flush.new.core.system.state c.args.core.now.vault c.flush.new.core.vault c.args.audit c.args.next c.requires.all c.in-Ok.ensures.runs c.end.new.system.state (ap (λ (s : Served). s.state) c.in-Ok.ensures.ok) (λ running. ap (λ k. k.system.state.since) (c.in-Err-flush.ensures.fault (fault_only c.in-Err-flush.field-0 c.args.core.now.vault.stopped c.in-Err-flush.ensures.runs running)).0) c.in-Err-flush.ensures.any_moment;
-      refuses = λ cause up. on_no_ok _ c.from_residual-in_err-finish-in-Err-flush.result c.from_residual-in_err-finish-in-Err-flush.ensures.0;
-    }
+returns-in_err-finish-in-Err-flush g c = record {
+  goes = λ precheck.
+      goes_running g.V.Store.told g.V.Store.may_leave g.V.Store.faults precheck (IsAuditing c.args.audit c.args.next) c.args.client.now c.args.core.now.regions.items c.args.core.now.system.state c.args.core.now.vault c.in-Ok.ensures.runs _ _ _ _ _ (λ running.
+      let only = fault_only c.in-Err-flush.field-0 c.args.core.now.vault.stopped c.in-Err-flush.ensures.runs running in
+      let core_is = (c.in-Err-flush.ensures.fault only).0 in
+      fails_silent_goes g.V.Store.told g.V.Store.may_leave g.V.Store.faults precheck c.args.client.now c.finish-in-Err-flush.new.self c.args.core.now.regions.items c.args.core.now.system.state c.args.core.now.vault c.args.audit c.args.next
+      c.requires.all c.flush.new.core.regions.items (ap (λ k. k.regions.items) core_is) c.flush.new.core.system.state c.end.new.system.state c.flush.new.core.vault c.in-Ok.ensures.runs (ap (λ (s : Served). s.state) c.in-Ok.ensures.ok) c.flush.ensures.whole
+      (ap (λ k. k.system.state) core_is) (ap (λ k. k.vault.stopped) core_is) (c.in-Err-flush.ensures.stops only)
+      _ (err_false c.from_residual-in_err-finish-in-Err-flush.result c.from_residual-in_err-finish-in-Err-flush.ensures.0) c.in_err-finish-in-Err-flush.ensures.err);
+  places = longer_outside _ _ _ _ _ _ _ (flush_keeps c.in-Err-flush.field-0 c.args.core.now.vault.stopped c.flush.new.core.regions.items c.args.core.now.regions.items c.in-Err-flush.ensures.runs (λ stops. ap (λ k. k.regions.items) (c.flush.ensures.stopped stops).1) (λ only. ap (λ k. k.regions.items) (c.in-Err-flush.ensures.fault only).0)) c.flush.ensures.files c.in_err-finish-in-Err-flush.ensures.err.stands;
+  on = err_on c.from_residual-in_err-finish-in-Err-flush.result c.from_residual-in_err-finish-in-Err-flush.ensures.0;
+  any_moment = end_leaves g.V.Store.told g.V.Store.may_leave g.V.Store.faults g.V.Store.moment g.V.Store.left_since c.args.client.now c.args.core.now.regions.items c.args.core.now.system.state c.flush.new.core.system.state c.args.core.now.vault c.flush.new.core.vault c.args.audit c.args.next c.requires.all c.in-Ok.ensures.runs c.end.new.system.state (ap (λ (s : Served). s.state) c.in-Ok.ensures.ok) (λ running. ap (λ k. k.system.state.since) (c.in-Err-flush.ensures.fault (fault_only c.in-Err-flush.field-0 c.args.core.now.vault.stopped c.in-Err-flush.ensures.runs running)).0) c.in-Err-flush.ensures.any_moment;
+  refuses = λ cause up. on_no_ok _ c.from_residual-in_err-finish-in-Err-flush.result c.from_residual-in_err-finish-in-Err-flush.ensures.0;
+}
 
 pub returns-in_ok-finish-in-Err-flush : goal.returns-in_ok-finish-in-Err-flush
-returns-in_ok-finish-in-Err-flush g c =
-    let same : c.flush.new.core.regions.items ≡ c.args.core.now.regions.items =
-    flush_keeps c.in-Err-flush.field-0 c.args.core.now.vault.stopped c.flush.new.core.regions.items c.args.core.now.regions.items c.in-Err-flush.ensures.runs (λ stops. ap (λ k. k.regions.items) (c.flush.ensures.stopped stops).1) (λ only. ap (λ k. k.regions.items) (c.in-Err-flush.ensures.fault only).0) in
-    record {
-      goes = λ precheck.
-          goes_from g.V.Store.told g.V.Store.may_leave g.V.Store.faults precheck (IsAuditing c.args.audit c.args.next) c.args.client.now c.args.core.now.regions.items c.args.core.now.system.state c.args.core.now.vault (c.args.core.now.vault.stopped ≡ false) _ _ _ _ _ (still_runs g.V.Store.told g.V.Store.may_leave g.V.Store.faults precheck (IsAuditing c.args.audit c.args.next) c.args.client.now c.args.core.now.regions.items c.args.core.now.system.state c.args.core.now.vault c.in-Ok.ensures.runs) (λ running.
-          let only = fault_only c.in-Err-flush.field-0 c.args.core.now.vault.stopped c.in-Err-flush.ensures.runs running in
-          let core_is = (c.in-Err-flush.ensures.fault only).0 in
-          fails_goes g.V.Store.told g.V.Store.may_leave g.V.Store.faults precheck c.args.client.now c.finish-in-Err-flush.new.self c.args.core.now.regions.items c.args.core.now.system.state c.args.core.now.vault c.args.audit c.args.next
-          c.requires.all c.flush.new.core.regions.items (ap (λ k. k.regions.items) core_is) c.flush.new.core.system.state c.end.new.system.state c.flush.new.core.vault c.in-Ok.ensures.runs (ap (λ (s : Served). s.state) c.in-Ok.ensures.ok) c.flush.ensures.whole
-          (ap (λ k. k.system.state) core_is) (ap (λ k. k.vault.stopped) core_is) (c.in-Err-flush.ensures.stops only)
-          (subst (λ (l : Line). Finishes c.args.client.now IsOutside l c.finish-in-Err-flush.new.self) c.refused-in-Err-flush.ensures c.in_ok-finish-in-Err-flush.ensures.ok));
-      places = longer_outside _ _ _ _ _ _ _ same c.flush.ensures.files c.in_ok-finish-in-Err-flush.ensures.ok.stands;
-      on = refl;
-      any_moment = end_leaves g.V.Store.told g.V.Store.may_leave g.V.Store.faults g.V.Store.moment g.V.Store.left_since c.args.client.now c.args.core.now.regions.items c.args.core.now.system.state c.flush.new.core.system.state c.args.core.now.vault c.flush.new.core.vault c.args.audit c.args.next c.requires.all c.in-Ok.ensures.runs c.end.new.system.state (ap (λ (s : Served). s.state) c.in-Ok.ensures.ok) (λ running. ap (λ k. k.system.state.since) (c.in-Err-flush.ensures.fault (fault_only c.in-Err-flush.field-0 c.args.core.now.vault.stopped c.in-Err-flush.ensures.runs running)).0) c.in-Err-flush.ensures.any_moment;
-      refuses = λ cause up. never_up c.args.core.now.system.state.stop cause c.in-Ok.ensures.runs up;
-    }
+returns-in_ok-finish-in-Err-flush g c = record {
+  goes = λ precheck.
+      goes_running g.V.Store.told g.V.Store.may_leave g.V.Store.faults precheck (IsAuditing c.args.audit c.args.next) c.args.client.now c.args.core.now.regions.items c.args.core.now.system.state c.args.core.now.vault c.in-Ok.ensures.runs _ _ _ _ _ (λ running.
+      let only = fault_only c.in-Err-flush.field-0 c.args.core.now.vault.stopped c.in-Err-flush.ensures.runs running in
+      let core_is = (c.in-Err-flush.ensures.fault only).0 in
+      fails_goes g.V.Store.told g.V.Store.may_leave g.V.Store.faults precheck c.args.client.now c.finish-in-Err-flush.new.self c.args.core.now.regions.items c.args.core.now.system.state c.args.core.now.vault c.args.audit c.args.next
+      c.requires.all c.flush.new.core.regions.items (ap (λ k. k.regions.items) core_is) c.flush.new.core.system.state c.end.new.system.state c.flush.new.core.vault c.in-Ok.ensures.runs (ap (λ (s : Served). s.state) c.in-Ok.ensures.ok) c.flush.ensures.whole
+      (ap (λ k. k.system.state) core_is) (ap (λ k. k.vault.stopped) core_is) (c.in-Err-flush.ensures.stops only)
+      (subst (λ (l : Line). Finishes c.args.client.now IsOutside l c.finish-in-Err-flush.new.self) c.refused-in-Err-flush.ensures c.in_ok-finish-in-Err-flush.ensures.ok));
+  places = longer_outside _ _ _ _ _ _ _ (flush_keeps c.in-Err-flush.field-0 c.args.core.now.vault.stopped c.flush.new.core.regions.items c.args.core.now.regions.items c.in-Err-flush.ensures.runs (λ stops. ap (λ k. k.regions.items) (c.flush.ensures.stopped stops).1) (λ only. ap (λ k. k.regions.items) (c.in-Err-flush.ensures.fault only).0)) c.flush.ensures.files c.in_ok-finish-in-Err-flush.ensures.ok.stands;
+  on = refl;
+  any_moment = end_leaves g.V.Store.told g.V.Store.may_leave g.V.Store.faults g.V.Store.moment g.V.Store.left_since c.args.client.now c.args.core.now.regions.items c.args.core.now.system.state c.flush.new.core.system.state c.args.core.now.vault c.flush.new.core.vault c.args.audit c.args.next c.requires.all c.in-Ok.ensures.runs c.end.new.system.state (ap (λ (s : Served). s.state) c.in-Ok.ensures.ok) (λ running. ap (λ k. k.system.state.since) (c.in-Err-flush.ensures.fault (fault_only c.in-Err-flush.field-0 c.args.core.now.vault.stopped c.in-Err-flush.ensures.runs running)).0) c.in-Err-flush.ensures.any_moment;
+  refuses = λ cause up. never_up c.args.core.now.system.state.stop cause c.in-Ok.ensures.runs up;
+}
 
 pub returns-then-not-has_passed_all : goal.returns-then-not-has_passed_all
 returns-then-not-has_passed_all g c = record {

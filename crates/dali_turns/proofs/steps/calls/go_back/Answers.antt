@@ -1,9 +1,8 @@
-use Rattle.std.proofs.Common.{is_some, is_ok, ap, refl, sym, subst, ◌∙◌, OnOk}
+use Rattle.std.proofs.Common.{is_some, is_ok, ap, refl, subst, ◌∙◌, OnOk}
 use Rattle.dali_calls.specs.Plans.{Planned, plan_next}
-use Rattle.dali_single.specs.Refusals.{IsRefusal}
 use Rattle.dali_turns.specs.Goes.{StepGoes}
 use Rattle.dali_turns.specs.declared.client.State.TheVariants.{TakingBack as IsTakingBack}
-use Rattle.dali_turns.proofs.CallSteps.{goes_back, goes_still, vault_still}
+use Rattle.dali_turns.proofs.CallSteps.{goes_back, refused_still, goes_still, vault_still}
 use Rattle.dali_turns.proofs.Placed.{places_beside, places_then}
 use Rattle.dali_turns.proofs.Meeting.{further_met_back, met_back_by}
 use Rattle.dali_system.specs.State.{SystemState}
@@ -20,22 +19,14 @@ returns-in-Ok-clause-goes g c =
     c.make_next.new.core.regions.items c.make_next.new.core.system.state c.make_next.new.plan c.in-Ok.ensures.further refl refl refl)
 
 pub stuck-requires-clause-cause : goal.stuck-requires-clause-cause
-stuck-requires-clause-cause g c = (
-  c.args.setting.now.precheck,
-  subst (λ (m : Planned). IsRefusal c.args.setting.now.precheck m c.make_next.new.core.regions.items c.make_next.new.core.system.state c.in-Err.error) (sym c.in-Err.ensures.err.0)
-      (subst (λ rs. IsRefusal c.args.setting.now.precheck c.args.plan rs c.make_next.new.core.system.state c.in-Err.error) (sym c.in-Err.ensures.err.1)
-      (subst (λ y. IsRefusal c.args.setting.now.precheck c.args.plan c.args.core.now.regions.items y c.in-Err.error) (sym c.in-Err.ensures.err.2) c.in-Err.ensures.cause)),
-)
+stuck-requires-clause-cause g c = (c.args.setting.now.precheck, refused_still c.args.core.now.regions.items c.make_next.new.core.regions.items c.args.core.now.system.state c.make_next.new.core.system.state c.in-Err.ensures.err.1 c.in-Err.ensures.err.2 c.args.plan c.make_next.new.plan c.in-Err.ensures.err.0 c.args.setting.now.precheck c.in-Err.error c.in-Err.ensures.cause)
 
 pub returns-in-Err-clause-goes : goal.returns-in-Err-clause-goes
 returns-in-Err-clause-goes g c =
     goes_still g.V.Store.told g.V.Store.may_leave g.V.Store.faults c.args.client.now c.args.core.now.regions.items c.make_next.new.core.regions.items c.args.core.now.system.state c.make_next.new.core.system.state c.args.core.now.vault c.make_next.new.core.vault c.in-Err.ensures.err.1 c.in-Err.ensures.err.2 c.in-Err.ensures.vault
     c.args.setting.now.precheck (IsTakingBack c.args.transaction c.args.plan c.args.why) _ _ _ _ _
     (subst (λ (m : Planned). StepGoes g.V.Store.told g.V.Store.may_leave g.V.Store.faults c.args.setting.now.precheck (IsTakingBack c.args.transaction m c.args.why) c.args.client.now c.make_next.new.core.regions.items c.make_next.new.core.system.state c.make_next.new.core.vault (is_ok c.stuck.result) c.stuck.new.client c.stuck.new.core.regions.items c.stuck.new.core.system.state c.stuck.new.core.vault) c.in-Err.ensures.err.0
-    (c.stuck.ensures.goes c.args.setting.now.precheck
-    (subst (λ (m : Planned). IsRefusal c.args.setting.now.precheck m c.make_next.new.core.regions.items c.make_next.new.core.system.state c.in-Err.error) (sym c.in-Err.ensures.err.0)
-    (subst (λ rs. IsRefusal c.args.setting.now.precheck c.args.plan rs c.make_next.new.core.system.state c.in-Err.error) (sym c.in-Err.ensures.err.1)
-    (subst (λ y. IsRefusal c.args.setting.now.precheck c.args.plan c.args.core.now.regions.items y c.in-Err.error) (sym c.in-Err.ensures.err.2) c.in-Err.ensures.cause)))))
+    (c.stuck.ensures.goes c.args.setting.now.precheck (refused_still c.args.core.now.regions.items c.make_next.new.core.regions.items c.args.core.now.system.state c.make_next.new.core.system.state c.in-Err.ensures.err.1 c.in-Err.ensures.err.2 c.args.plan c.make_next.new.plan c.in-Err.ensures.err.0 c.args.setting.now.precheck c.in-Err.error c.in-Err.ensures.cause)))
 
 pub returns-in-Ok-clause-places : goal.returns-in-Ok-clause-places
 returns-in-Ok-clause-places g c = places_beside g.V.Store.told (IsTakingBack c.args.transaction c.args.plan c.args.why) _ c.args.core.now.regions.items c.make_next.new.core.regions.items c.args.core.now.vault c.make_next.new.core.vault c.in-Ok.ensures.flags c.in-Ok.ensures.vault tt

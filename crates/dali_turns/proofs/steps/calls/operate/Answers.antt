@@ -1,9 +1,8 @@
 use Rattle.std.proofs.Common.{not, is_ok, ap, refl, sym, subst, ◌∙◌, OnOk}
-use Rattle.dali_calls.specs.Plans.{Planned, IsWhole, is_back, want_of}
-use Rattle.dali_single.specs.Refusals.{IsRefusal}
+use Rattle.dali_calls.specs.Plans.{Planned, is_back}
 use Rattle.dali_turns.specs.Goes.{StepGoes}
 use Rattle.dali_turns.specs.declared.client.State.TheVariants.{Calling as IsCalling}
-use Rattle.dali_turns.proofs.CallSteps.{operated_goes, some_next, rest_still, goes_still, vault_still}
+use Rattle.dali_turns.proofs.CallSteps.{operated_goes, some_next, makes_still, refused_still, goes_still, vault_still}
 use Rattle.dali_turns.proofs.Placed.{places_beside, places_then}
 use Rattle.dali_system.specs.State.{SystemState}
 use Rattle.dali_turns.specs.Refuses.{IsMet}
@@ -11,27 +10,19 @@ use Rattle.dali_turns.proofs.Meeting.{further_met, met_by}
 use Rattle.dali_turns.proofs.steps.calls.operate.Goals as goal
 
 pub make_next-requires-clause-wants : goal.make_next-requires-clause-wants
-make_next-requires-clause-wants g c = some_next g.V.Store.told g.V.Store.may_leave g.V.Store.faults c.args.core.now.regions.items c.args.core.now.system.state c.args.core.now.vault c.args.client.now c.args.transaction c.args.plan c.args.region c.requires.wants
+make_next-requires-clause-wants g c = some_next g.V.Store.told g.V.Store.may_leave g.V.Store.faults c.args.core.now.regions.items c.args.core.now.system.state c.args.core.now.vault c.args.client.now c.args.transaction c.args.plan c.args.region c.requires.makes.wants
 
 pub returns-in-Ok-clause-goes : goal.returns-in-Ok-clause-goes
 returns-in-Ok-clause-goes g c =
     vault_still g.V.Store.told g.V.Store.may_leave g.V.Store.faults c.args.setting.now.precheck (IsCalling c.args.transaction c.args.plan) c.args.client.now _ c.args.core.now.regions.items c.make_next.new.core.regions.items c.args.core.now.system.state c.make_next.new.core.system.state c.args.core.now.vault c.make_next.new.core.vault _ c.in-Ok.ensures.vault
     (operated_goes g.V.Store.told g.V.Store.may_leave g.V.Store.faults c.args.setting.now.precheck c.args.core.now.regions.items c.args.core.now.system.state c.args.core.now.vault c.args.client.now _ c.args.transaction c.args.plan
-    c.make_next.new.core.regions.items c.make_next.new.core.system.state c.make_next.new.plan c.further-transaction.result c.args.onward c.requires.whole c.in-Ok.ensures.further c.requires.way c.requires.lives c.further-transaction.ensures refl refl refl)
+    c.make_next.new.core.regions.items c.make_next.new.core.system.state c.make_next.new.plan c.further-transaction.result c.args.onward c.requires.makes.whole c.in-Ok.ensures.further c.requires.way c.requires.lives c.further-transaction.ensures refl refl refl)
 
-pub hindered-requires-clause-wants : goal.hindered-requires-clause-wants
-hindered-requires-clause-wants g c = ap want_of c.in-Err.ensures.err.0 ∙ c.requires.wants
-
-pub hindered-requires-clause-whole : goal.hindered-requires-clause-whole
-hindered-requires-clause-whole g c = subst IsWhole (sym c.in-Err.ensures.err.0) c.requires.whole
+pub hindered-requires-clause-makes : goal.hindered-requires-clause-makes
+hindered-requires-clause-makes g c = makes_still c.args.core.now.regions.items c.make_next.new.core.regions.items c.args.core.now.system.state c.make_next.new.core.system.state c.in-Err.ensures.err.1 c.in-Err.ensures.err.2 c.args.plan c.make_next.new.plan c.in-Err.ensures.err.0 _ c.args.region c.requires.makes
 
 pub hindered-requires-clause-cause : goal.hindered-requires-clause-cause
-hindered-requires-clause-cause g c = (
-  c.args.setting.now.precheck,
-  subst (λ (m : Planned). IsRefusal c.args.setting.now.precheck m c.make_next.new.core.regions.items c.make_next.new.core.system.state c.in-Err.error) (sym c.in-Err.ensures.err.0)
-      (subst (λ rs. IsRefusal c.args.setting.now.precheck c.args.plan rs c.make_next.new.core.system.state c.in-Err.error) (sym c.in-Err.ensures.err.1)
-      (subst (λ y. IsRefusal c.args.setting.now.precheck c.args.plan c.args.core.now.regions.items y c.in-Err.error) (sym c.in-Err.ensures.err.2) c.in-Err.ensures.cause)),
-)
+hindered-requires-clause-cause g c = (c.args.setting.now.precheck, refused_still c.args.core.now.regions.items c.make_next.new.core.regions.items c.args.core.now.system.state c.make_next.new.core.system.state c.in-Err.ensures.err.1 c.in-Err.ensures.err.2 c.args.plan c.make_next.new.plan c.in-Err.ensures.err.0 c.args.setting.now.precheck c.in-Err.error c.in-Err.ensures.cause)
 
 pub hindered-requires-clause-lives : goal.hindered-requires-clause-lives
 hindered-requires-clause-lives g c = λ way deadly. absurd (c.requires.lives (c.requires.way ∙ ap not (sym (ap is_back c.in-Err.ensures.err.0) ∙ way)) deadly)
@@ -41,13 +32,7 @@ returns-in-Err-clause-goes g c =
     goes_still g.V.Store.told g.V.Store.may_leave g.V.Store.faults c.args.client.now c.args.core.now.regions.items c.make_next.new.core.regions.items c.args.core.now.system.state c.make_next.new.core.system.state c.args.core.now.vault c.make_next.new.core.vault c.in-Err.ensures.err.1 c.in-Err.ensures.err.2 c.in-Err.ensures.vault
     c.args.setting.now.precheck (IsCalling c.args.transaction c.args.plan) _ _ _ _ _
     (subst (λ (m : Planned). StepGoes g.V.Store.told g.V.Store.may_leave g.V.Store.faults c.args.setting.now.precheck (IsCalling c.args.transaction m) c.args.client.now c.make_next.new.core.regions.items c.make_next.new.core.system.state c.make_next.new.core.vault (is_ok c.hindered.result) c.hindered.new.client c.hindered.new.core.regions.items c.hindered.new.core.system.state c.hindered.new.core.vault) c.in-Err.ensures.err.0
-    (c.hindered.ensures.goes c.args.setting.now.precheck
-    (subst (λ (m : Planned). IsRefusal c.args.setting.now.precheck m c.make_next.new.core.regions.items c.make_next.new.core.system.state c.in-Err.error) (sym c.in-Err.ensures.err.0)
-    (subst (λ rs. IsRefusal c.args.setting.now.precheck c.args.plan rs c.make_next.new.core.system.state c.in-Err.error) (sym c.in-Err.ensures.err.1)
-    (subst (λ y. IsRefusal c.args.setting.now.precheck c.args.plan c.args.core.now.regions.items y c.in-Err.error) (sym c.in-Err.ensures.err.2) c.in-Err.ensures.cause)))))
-
-pub hindered-requires-clause-rest : goal.hindered-requires-clause-rest
-hindered-requires-clause-rest g c = rest_still g.V.Store.told g.V.Store.may_leave g.V.Store.faults c.args.client.now c.args.core.now.regions.items c.make_next.new.core.regions.items c.args.core.now.system.state c.make_next.new.core.system.state c.args.core.now.vault c.make_next.new.core.vault c.in-Err.ensures.err.1 c.in-Err.ensures.err.2 c.in-Err.ensures.vault c.args.plan c.make_next.new.plan c.in-Err.ensures.err.0 c.requires.rest
+    (c.hindered.ensures.goes c.args.setting.now.precheck (refused_still c.args.core.now.regions.items c.make_next.new.core.regions.items c.args.core.now.system.state c.make_next.new.core.system.state c.in-Err.ensures.err.1 c.in-Err.ensures.err.2 c.args.plan c.make_next.new.plan c.in-Err.ensures.err.0 c.args.setting.now.precheck c.in-Err.error c.in-Err.ensures.cause)))
 
 pub returns-in-Ok-clause-places : goal.returns-in-Ok-clause-places
 returns-in-Ok-clause-places g c = places_beside g.V.Store.told (IsCalling c.args.transaction c.args.plan) _ c.args.core.now.regions.items c.make_next.new.core.regions.items c.args.core.now.vault c.make_next.new.core.vault c.in-Ok.ensures.flags c.in-Ok.ensures.vault tt

@@ -11,7 +11,7 @@ returns-in-Err-Stopped-clause-refused g c =
       c.in-Err-Stopped.cause,
       refl,
       clean_stop c.args.core.now.system.state.stop (Err e) e c.in-Err-Stopped.cause refl c.in-Err-Stopped.field-0-is (c.in-Err-Stopped.ensures.refused was) (λ none. c.in-Err-Stopped.ensures.memory none other),
-      λ may. let again = c.in-Err-Stopped.ensures.again may other in record { left = again.0; again = again.1; dead = c.in-Err-Stopped.ensures.dead; others = c.in-Err-Stopped.ensures.others },
+      λ may. let again = c.in-Err-Stopped.ensures.again may other in record { left = again.0; again = again.1; dead = c.in-Err-Stopped.ensures.dead; others = c.in-Err-Stopped.ensures.only.others },
     )
 
 pub returns-in-Ok-clause-runs : goal.returns-in-Ok-clause-runs
