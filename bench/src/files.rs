@@ -70,32 +70,6 @@ fn commit_by(count: u64, sync: Sync, folder: &Path) -> Option<Timing> {
     timing
 }
 
-/// The image of the folder's database and the log from the image's place on, which the system has cached, are read once.
-/// The check number is how many bytes these are. Giving the memory back isn't timed.
-pub fn read_behind(folder: &Path) -> Option<Timing> {
-    let anchor = fs::read(folder.join("dali.anchor")).ok()?;
-    let gates = anchor.iter().take_while(|gate| **gate == OPEN).count();
-    let image = folder.join(if gates % 2 == 0 { "dali.b" } else { "dali.a" });
-    let mut place = [0; 8];
-    File::open(&image).ok()?.read_exact_at(&mut place, PLACE).ok()?;
-    let place = u64::from_be_bytes(place);
-    let log = File::open(folder.join("dali.log")).ok()?;
-    let behind = log.metadata().ok()?.len().checked_sub(place)?;
-    let count = fs::metadata(&image).ok()?.len() + behind;
-    let mut read = (Vec::new(), Vec::new());
-    let timing = timed(count, "bytes", || {
-        read.0 = fs::read(&image).ok()?;
-        read.1 = vec![0; behind as usize];
-        log.read_exact_at(&mut read.1, place).ok()?;
-        black_box(&read);
-        Some(())
-    })?;
-    Some(timing.checked(count))
-}
-
-/// Where an image's header has the place in the log behind which a restart reads.
-const PLACE: u64 = 24;
-
 /// How many bytes an image file has beside the words of its regions.
 const AROUND: u64 = 64 + 4;
 
@@ -124,38 +98,5 @@ pub fn image(regions: u64, folder: &Path) -> Option<Timing> {
     });
     let length = file.metadata().ok()?.len();
     fs::remove_file(path).ok()?;
-    Some(timing?.checked(length))
-}
-
-/// Ten times, the store calls of a checkpoint that copies these regions, over three files of their own in the folder; and all words
-/// are read. The check number is the length of an image of so many regions.
-pub fn settle(regions: u64, copied: &[u64], folder: &Path) -> Option<Timing> {
-    let names = ["log", "image", "anchor"];
-    let paths = names.map(|name| folder.join(format!("bare.{}.{name}", std::process::id())));
-    let [log, image, anchor] = [make(&paths[0])?, make(&paths[1])?, make(&paths[2])?];
-    let length = AROUND + REGION * regions;
-    image.set_len(length).ok()?;
-    image.sync_data().ok()?;
-    let words: Vec<u64> = (0..regions * REGION / 8).collect();
-    let batch = [1; 5 + 1 + 9];
-    let timing = timed(10, "checkpoints", || {
-        for place in 0..10 {
-            image.write_all_at(&[0; 4], length - 4).ok()?;
-            image.write_all_at(&[place as u8; 64], 0).ok()?;
-            for region in copied {
-                image
-                    .write_all_at(&[place as u8; REGION as usize], 64 + REGION * region)
-                    .ok()?;
-            }
-            black_box(black_box(&words).iter().fold(0, |all, word| all ^ word));
-            write_batch(&log, place * batch.len() as u64, &batch, File::sync_data).ok()?;
-            image.sync_data().ok()?;
-            write_batch(&anchor, place, &[0], File::sync_data).ok()?;
-        }
-        Some(())
-    });
-    for path in paths {
-        fs::remove_file(path).ok()?;
-    }
     Some(timing?.checked(length))
 }

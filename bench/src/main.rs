@@ -34,19 +34,15 @@ fn time(words: &[&str]) -> Option<Timing> {
         ["tens", count] => calls::run_tens(count.parse().ok()?),
         ["uncoded", count] => calls::run_uncoded(count.parse().ok()?),
         ["audit", count] => regions::read(count.parse().ok()?),
-        ["apart", count] => regions::read_apart(count.parse().ok()?),
         ["checkpoint", count, folder] => files::image(count.parse().ok()?, Path::new(folder)),
-        ["clean", count, folder] => files::settle(count.parse().ok()?, &[], Path::new(folder)),
-        ["dirty", count, folder] => files::settle(count.parse().ok()?, &[0], Path::new(folder)),
         ["commit", count, folder] => files::commit(count.parse().ok()?, Path::new(folder)),
         ["fsync", count, folder] => files::commit_all(count.parse().ok()?, Path::new(folder)),
-        ["recover", folder] => files::read_behind(Path::new(folder)),
         _ => None,
     }
 }
 
-const USAGE: &str = "usage: bench codec|locks|update|check|parse|claims|notes|insert|get|change|delete|tens|uncoded|audit|apart COUNT, \
-    bench commit|fsync|checkpoint|clean|dirty COUNT FOLDER, bench recover FOLDER, bench gen CLIENTS SIZE NUMBER FLUSHES FOLDER, bench read FOLDER, \
+const USAGE: &str = "usage: bench codec|locks|update|check|parse|claims|notes|insert|get|change|delete|tens|uncoded|audit COUNT, \
+    bench commit|fsync|checkpoint COUNT FOLDER, bench gen CLIENTS SIZE NUMBER FLUSHES FOLDER, bench read FOLDER, \
     bench copy COUNT REGIONS, bench table PROGRAM SCRIPT FOLDER [ROW..], or bench whole PROGRAM FOLDER MEMORY [ROW..]";
 
 /// The floor of the generated round.

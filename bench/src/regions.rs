@@ -168,26 +168,3 @@ pub fn read(regions: u64) -> Option<Timing> {
     })?;
     Some(timing.checked(regions))
 }
-
-/// How many words a region takes in dali, with its own 64.
-const PLACE: usize = 140;
-
-/// The words of all regions, which lie as far apart as those of dali's regions, are read ten times. The check number is how many
-/// regions there are.
-pub fn read_apart(regions: u64) -> Option<Timing> {
-    let places: Vec<[u64; PLACE]> = (0..regions)
-        .map(|region| {
-            let mut place = [0; PLACE];
-            place[..WORDS as usize].copy_from_slice(&words_of(region));
-            place
-        })
-        .collect();
-    let timing = timed(10 * regions, "regions", || {
-        for _ in 0..10 {
-            let words = black_box(&places).iter().flat_map(|place| &place[..WORDS as usize]);
-            black_box(words.fold(0, |all, word| all ^ word));
-        }
-        Some(())
-    })?;
-    Some(timing.checked(regions))
-}

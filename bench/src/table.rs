@@ -7,7 +7,7 @@ use std::process::{Child, Command, Stdio};
 /// How many turns most rows have. It is odd, as are those of each row, so that one run is the median.
 const TURNS: usize = 5;
 
-/// How many turns commits, checkpoints, syncs, codewords, growth and the script have. A disk varies from moment to moment by more than the goal allows, and
+/// How many turns commits, syncs, codewords, growth and the script have. A disk varies from moment to moment by more than the goal allows, and
 /// so does a run of some 50 milliseconds: many short turns meet the machine in the same moments on both sides.
 const SHORT_TURNS: usize = 25;
 
@@ -39,17 +39,12 @@ enum Files {
     Absent,
     /// New ones, which each run removes.
     New,
-    /// A copy for each run of the files of a database with so many updates behind its image, and with an audit that failed behind
-    /// them where it is damaged.
-    Database { updates: u64, damaged: bool },
 }
 
 struct Row {
     name: &'static str,
-    /// How often both sides do it, where they are told.
-    count: Option<u64>,
-    /// With which counts it is done too, to show how it grows. No goal is set for these.
-    others: &'static [u64],
+    /// How often both sides do it.
+    count: u64,
     files: Files,
     /// How often each side is run.
     turns: usize,
@@ -59,11 +54,10 @@ struct Row {
     goal: Goal,
 }
 
-const ROWS: [Row; 24] = [
+const ROWS: [Row; 13] = [
     Row {
         name: "codec",
-        count: Some(1_000_000),
-        others: &[],
+        count: 1_000_000,
         files: Files::Absent,
         turns: TURNS,
         dali: "encode and decode a million block records of three-byte values",
@@ -73,8 +67,7 @@ const ROWS: [Row; 24] = [
     },
     Row {
         name: "locks",
-        count: Some(1_000_000),
-        others: &[],
+        count: 1_000_000,
         files: Files::Absent,
         turns: TURNS,
         dali: "a million lock requests and their releases, 64 transactions, 100,000 keys",
@@ -84,8 +77,7 @@ const ROWS: [Row; 24] = [
     },
     Row {
         name: "update",
-        count: Some(1_000_000),
-        others: &[],
+        count: 1_000_000,
         files: Files::Absent,
         turns: TURNS,
         dali: "update and touch one word of a region, a million times over 64 MiB of regions",
@@ -95,8 +87,7 @@ const ROWS: [Row; 24] = [
     },
     Row {
         name: "check",
-        count: Some(10),
-        others: &[],
+        count: 10,
         files: Files::Absent,
         turns: TURNS,
         dali: "check every region of 64 MiB, ten times",
@@ -106,8 +97,7 @@ const ROWS: [Row; 24] = [
     },
     Row {
         name: "parse",
-        count: Some(20),
-        others: &[],
+        count: 20,
         files: Files::Absent,
         turns: TURNS,
         dali: "parse a script of 1 MiB, twenty times",
@@ -117,8 +107,7 @@ const ROWS: [Row; 24] = [
     },
     Row {
         name: "claims",
-        count: Some(10_000_000),
-        others: &[],
+        count: 10_000_000,
         files: Files::Absent,
         turns: TURNS,
         dali: "draw ten million numbers, each once",
@@ -128,8 +117,7 @@ const ROWS: [Row; 24] = [
     },
     Row {
         name: "notes",
-        count: Some(10_000_000),
-        others: &[],
+        count: 10_000_000,
         files: Files::Absent,
         turns: TURNS,
         dali: "add ten million entries to a history, and let another note meet each",
@@ -139,8 +127,7 @@ const ROWS: [Row; 24] = [
     },
     Row {
         name: "insert",
-        count: Some(100_000),
-        others: &[],
+        count: 100_000,
         files: Files::Absent,
         turns: TURNS,
         dali: "insert 100,000 records by calls, five a transaction, one thread, in memory",
@@ -150,8 +137,7 @@ const ROWS: [Row; 24] = [
     },
     Row {
         name: "get",
-        count: Some(100_000),
-        others: &[],
+        count: 100_000,
         files: Files::Absent,
         turns: TURNS,
         dali: "get each of 100,000 records by calls, five a transaction",
@@ -161,8 +147,7 @@ const ROWS: [Row; 24] = [
     },
     Row {
         name: "change",
-        count: Some(100_000),
-        others: &[],
+        count: 100_000,
         files: Files::Absent,
         turns: TURNS,
         dali: "update each of 100,000 records by calls, five a transaction",
@@ -172,8 +157,7 @@ const ROWS: [Row; 24] = [
     },
     Row {
         name: "delete",
-        count: Some(100_000),
-        others: &[],
+        count: 100_000,
         files: Files::Absent,
         turns: TURNS,
         dali: "delete each of 100,000 records by calls, five a transaction",
@@ -183,8 +167,7 @@ const ROWS: [Row; 24] = [
     },
     Row {
         name: "tens",
-        count: Some(5_000),
-        others: &[],
+        count: 5_000,
         files: Files::Absent,
         turns: TURNS,
         dali: "insert 5,000 records by calls, ten a transaction",
@@ -193,64 +176,8 @@ const ROWS: [Row; 24] = [
         goal: Goal::Unset,
     },
     Row {
-        name: "audit",
-        count: Some(19_203),
-        others: &REGIONS,
-        files: Files::Absent,
-        turns: TURNS,
-        dali: "audit 19,203 regions ten times",
-        beside: "reading their words, which lie in one piece",
-        unit: "regions",
-        goal: Goal::Times(2.0),
-    },
-    Row {
-        name: "apart",
-        count: Some(19_203),
-        others: &REGIONS,
-        files: Files::Absent,
-        turns: TURNS,
-        dali: "audit 19,203 regions ten times",
-        beside: "reading their words, which lie at every 1,120 bytes as dali's do",
-        unit: "regions",
-        goal: Goal::Unset,
-    },
-    Row {
-        name: "checkpoint",
-        count: Some(19_203),
-        others: &REGIONS,
-        files: Files::New,
-        turns: SHORT_TURNS,
-        dali: "the first checkpoint of 19,203 regions, with its audit, real files",
-        beside: "writing and syncing an image's bytes in one piece",
-        unit: "regions",
-        goal: Goal::Times(2.0),
-    },
-    Row {
-        name: "clean",
-        count: Some(19_203),
-        others: &REGIONS,
-        files: Files::New,
-        turns: SHORT_TURNS,
-        dali: "ten checkpoints of 19,203 regions that no image lacks, with their audits, real files",
-        beside: "the same store calls, and reading the words once for each",
-        unit: "checkpoints",
-        goal: Goal::Unset,
-    },
-    Row {
-        name: "dirty",
-        count: Some(19_203),
-        others: &REGIONS,
-        files: Files::New,
-        turns: SHORT_TURNS,
-        dali: "ten checkpoints of 19,203 regions, one of them written before each, with their audits, real files",
-        beside: "the same store calls, and reading the words once for each",
-        unit: "checkpoints",
-        goal: Goal::Unset,
-    },
-    Row {
         name: "commit",
-        count: Some(500),
-        others: &[],
+        count: 500,
         files: Files::New,
         turns: SHORT_TURNS,
         dali: "500 durable commits of one insert, one client, real files",
@@ -258,104 +185,7 @@ const ROWS: [Row; 24] = [
         unit: "commits",
         goal: Goal::Share(0.9),
     },
-    Row {
-        name: "recover",
-        count: None,
-        others: &[],
-        files: Files::Database {
-            updates: 4_230,
-            damaged: false,
-        },
-        turns: TURNS,
-        dali: "restart a database of 100,000 records with 1 MB of log behind its image",
-        beside: "reading image and log behind it once",
-        unit: "bytes",
-        goal: Goal::Times(4.0),
-    },
-    Row {
-        name: "recover",
-        count: None,
-        others: &[],
-        files: Files::Database {
-            updates: 4_230,
-            damaged: true,
-        },
-        turns: TURNS,
-        dali: "restart a database of 100,000 records with 1 MB of log behind its image, and an audit there that failed",
-        beside: "reading image and log behind it once",
-        unit: "bytes",
-        goal: Goal::Times(9.0),
-    },
-    Row {
-        name: "recover",
-        count: None,
-        others: &[],
-        files: Files::Database {
-            updates: 42_300,
-            damaged: false,
-        },
-        turns: TURNS,
-        dali: "restart a database of 100,000 records with 10 MB of log behind its image",
-        beside: "reading image and log behind it once",
-        unit: "bytes",
-        goal: Goal::Times(4.0),
-    },
-    Row {
-        name: "recover",
-        count: None,
-        others: &[],
-        files: Files::Database {
-            updates: 42_300,
-            damaged: true,
-        },
-        turns: TURNS,
-        dali: "restart a database of 100,000 records with 10 MB of log behind its image, and an audit there that failed",
-        beside: "reading image and log behind it once",
-        unit: "bytes",
-        goal: Goal::Times(9.0),
-    },
-    Row {
-        name: "recover",
-        count: None,
-        others: &[],
-        files: Files::Database {
-            updates: 253_800,
-            damaged: false,
-        },
-        turns: TURNS,
-        dali: "restart a database of 100,000 records with 60 MB of log behind its image",
-        beside: "reading image and log behind it once",
-        unit: "bytes",
-        goal: Goal::Times(4.0),
-    },
-    Row {
-        name: "recover",
-        count: None,
-        others: &[],
-        files: Files::Database {
-            updates: 253_800,
-            damaged: true,
-        },
-        turns: TURNS,
-        dali: "restart a database of 100,000 records with 60 MB of log behind its image, and an audit there that failed",
-        beside: "reading image and log behind it once",
-        unit: "bytes",
-        goal: Goal::Times(9.0),
-    },
 ];
-
-impl Row {
-    /// What dali's program calls it: the other side has two answers to an audit.
-    fn task(&self) -> &'static str {
-        match self.name {
-            "apart" => "audit",
-            name => name,
-        }
-    }
-}
-
-/// How many regions are audited and checkpointed beside those of the goals.
-const REGIONS: [u64; 2] = [2_001, 98_304];
 
 const GROWTH: [u64; 3] = [1_000, 10_000, 100_000];
 
@@ -493,7 +323,8 @@ fn mebibytes(run: Run) -> String {
 }
 
 /// Prints a row of runs that did the same work, of which the two of one turn stand at one place.
-fn print_row(what: &str, goal: &Goal, row: &Row, dali_runs: &[Run], beside_runs: &[Run]) {
+fn print_row(row: &Row, dali_runs: &[Run], beside_runs: &[Run]) {
+    let (what, goal) = (row.dali, &row.goal);
     let dali = median(dali_runs);
     let beside = median(beside_runs);
     let ratio = ratio_of(goal, dali.rate, beside.rate);
@@ -597,7 +428,7 @@ fn print_machine(folder: &Path) -> io::Result<()> {
         .find_map(|line| line.strip_prefix("model name")?.split_once(": "))
         .map_or("an unknown processor", |(_, model)| model);
     println!("{cores} cores of {model}; files on {}.", disk_of(folder)?);
-    println!("Medians of {TURNS} runs each, of commits, checkpoints, syncs, codewords, growth and the script {SHORT_TURNS}. `half of the turns` says");
+    println!("Medians of {TURNS} runs each, of commits, syncs, codewords, growth and the script {SHORT_TURNS}. `half of the turns` says");
     println!("between which two ratios half of them lie.");
     println!("Rates are a second.");
     println!("Memory is the most that was resident, in MiB (2^20 bytes). Near 2 or 3 MiB it says nothing, since what this");
@@ -651,10 +482,6 @@ struct Sides<'a> {
     beside: PathBuf,
     /// Where runs make files and remove them.
     new: PathBuf,
-    /// Where the files are that were made for all runs of a row.
-    made: PathBuf,
-    /// Where each run finds its copy of them.
-    copy: PathBuf,
 }
 
 impl Sides<'_> {
@@ -662,57 +489,21 @@ impl Sides<'_> {
         match row.files {
             Files::Absent => None,
             Files::New => Some(&self.new),
-            Files::Database { .. } => Some(&self.copy),
         }
     }
 
-    /// Makes the files for all runs of a row.
-    fn make_files(&self, row: &Row) -> io::Result<()> {
-        let (name, count) = match row.files {
-            Files::Absent | Files::New => return Ok(()),
-            Files::Database { updates, damaged: false } => ("fill", updates),
-            Files::Database { updates, damaged: true } => ("damage", updates),
-        };
-        make_anew(&self.made)?;
+    fn dali(&self, row: &Row) -> io::Result<Run> {
         let mut command = Command::new(self.dali);
-        command.arg(name).arg("--count").arg(count.to_string());
-        output(command.arg("--folder").arg(&self.made))?;
-        Ok(())
-    }
-
-    /// Copies them for one run, where a run changes them.
-    fn copy_files(&self, row: &Row) -> io::Result<()> {
-        if !matches!(row.files, Files::Database { .. }) {
-            return Ok(());
-        }
-        make_anew(&self.copy)?;
-        for file in fs::read_dir(&self.made)? {
-            let file = file?;
-            let to = self.copy.join(file.file_name());
-            fs::copy(file.path(), &to)?;
-            fs::File::open(to)?.sync_all()?;
-        }
-        Ok(())
-    }
-
-    fn dali(&self, row: &Row, count: Option<u64>) -> io::Result<Run> {
-        self.copy_files(row)?;
-        let mut command = Command::new(self.dali);
-        command.arg(row.task());
-        if let Some(count) = count {
-            command.arg("--count").arg(count.to_string());
-        }
+        command.arg(row.name).arg("--count").arg(row.count.to_string());
         if let Some(folder) = self.folder_of(row) {
             command.arg("--folder").arg(folder);
         }
         run(&mut command)
     }
 
-    fn beside(&self, row: &Row, count: Option<u64>) -> io::Result<Run> {
-        self.copy_files(row)?;
+    fn beside(&self, row: &Row) -> io::Result<Run> {
         let mut command = Command::new(&self.beside);
-        command.arg(row.name);
-        command.args(count.map(|count| count.to_string()));
+        command.arg(row.name).arg(row.count.to_string());
         command.args(self.folder_of(row));
         run(&mut command)
     }
@@ -736,33 +527,28 @@ impl Sides<'_> {
     }
 }
 
-fn print_count(sides: &Sides, what: &str, goal: &Goal, row: &Row, count: Option<u64>) -> io::Result<()> {
+fn print_turns(sides: &Sides, row: &Row) -> io::Result<()> {
     let mut dali = Vec::new();
     let mut beside = Vec::new();
     for turn in 0..row.turns {
         // Each side begins every other turn, so that what one run leaves to the next falls on both.
         if turn % 2 == 0 {
-            dali.push(sides.dali(row, count)?);
-            beside.push(sides.beside(row, count)?);
+            dali.push(sides.dali(row)?);
+            beside.push(sides.beside(row)?);
         } else {
-            beside.push(sides.beside(row, count)?);
-            dali.push(sides.dali(row, count)?);
+            beside.push(sides.beside(row)?);
+            dali.push(sides.dali(row)?);
         }
     }
     compare(row.name, dali.iter().chain(&beside))?;
-    print_row(what, goal, row, &dali, &beside);
+    print_row(row, &dali, &beside);
     Ok(())
 }
 
 /// Prints the rows whose names are asked for.
 fn print_rows(sides: &Sides, is_asked: impl Fn(&str) -> bool) -> io::Result<()> {
     for row in ROWS.iter().filter(|row| is_asked(row.name)) {
-        sides.make_files(row)?;
-        print_count(sides, row.dali, &row.goal, row, row.count)?;
-        for count in row.others {
-            let what = format!("the same with {}", in_threes(*count));
-            print_count(sides, &what, &Goal::Unset, row, Some(*count))?;
-        }
+        print_turns(sides, row)?;
     }
     Ok(())
 }
@@ -866,8 +652,6 @@ pub fn print(program: &Path, script: &Path, folder: &Path, names: &[&str]) -> io
         script,
         beside: std::env::current_exe()?,
         new: own.path.join("new"),
-        made: own.path.join("made"),
-        copy: own.path.join("copy"),
     };
     fs::create_dir(&sides.new)?;
     print_machine(&own.path)?;

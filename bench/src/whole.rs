@@ -247,10 +247,11 @@ fn copy_log(from: &Path, to: &Path) -> io::Result<()> {
     fs::write(to.join("dali.a"), [])
 }
 
-/// A restart of files that the round left, copied so. The other side prints how many bytes it read.
+/// A restart of files that were left so, copied for each run; it is to take at most so many times as long as reading them. The other side prints how many bytes it read.
 fn print_restart(
     programs: &Programs,
     what: &str,
+    most: f64,
     copy: fn(&Path, &Path) -> io::Result<()>,
     made: &Path,
     folder: &Path,
@@ -275,7 +276,7 @@ fn print_restart(
     print_row(
         what,
         "reading the files once",
-        Goal::Times(4.0),
+        Goal::Times(most),
         &times(&dali),
         &times(&other),
         [mebibytes(&dali), mebibytes(&other)],
@@ -354,6 +355,44 @@ fn script() -> String {
     text
 }
 
+/// Updates of so many records of the script's database, five a transaction, behind the image that a restart makes; and an audit that
+/// fails behind them, where the database is damaged.
+fn updates(count: u64, is_damaged: bool) -> String {
+    let mut text = String::from("open\nclient 1\n");
+    for number in 0..count / 5 {
+        text.push_str("begin\n");
+        for place in 0..5 {
+            text.push_str(&format!("update {} new{place}\n", (5 * number + place) % (5 * u64::from(SCRIPTED))));
+        }
+        text.push_str("commit\n");
+    }
+    text.push_str("end\n");
+    if is_damaged {
+        text.push_str("poke 3001 11 1\naudit\n");
+    }
+    text
+}
+
+/// Restarts behind an image, with so many updates in the log behind it.
+fn print_behind(programs: &Programs, folder: &Path) -> io::Result<()> {
+    let made = folder.join("behind");
+    for (count, size) in [(4_230, "1 MB"), (42_300, "10 MB")] {
+        for is_damaged in [false, true] {
+            make_anew(&made)?;
+            for (text, failures) in [(script(), 0), (updates(count, is_damaged), u64::from(is_damaged))] {
+                if run(&programs.dali, &["run"], &text, &made)?.failures != failures {
+                    return Err(io::Error::other("the database behind whose image updates stand wasn't made"));
+                }
+            }
+            let audit = if is_damaged { ", and an audit there that failed" } else { "" };
+            let what = format!("restart of 30,000 records with {size} of log behind the image{audit}, in memory");
+            let most = if is_damaged { 9.0 } else { 4.0 };
+            print_restart(programs, &what, most, copy, &made, folder)?;
+        }
+    }
+    Ok(())
+}
+
 fn print_precheck(programs: &Programs, folder: &Path) -> io::Result<()> {
     let (new, text) = (folder.join("new"), script());
     let with_words = |words: &[&str]| {
@@ -379,9 +418,9 @@ fn print_precheck(programs: &Programs, folder: &Path) -> io::Result<()> {
 }
 
 /// The names of the rows.
-const NAMES: [&str; 6] = ["gen", "memory", "restart", "audit", "checkpoint", "precheck"];
+const NAMES: [&str; 7] = ["gen", "memory", "restart", "behind", "audit", "checkpoint", "precheck"];
 
-/// Prints the rows, or those with these names: `gen`, `memory`, `restart`, `audit`, `checkpoint`, `precheck`. The second folder
+/// Prints the rows, or those with these names: `gen`, `memory`, `restart`, `behind`, `audit`, `checkpoint`, `precheck`. The second folder
 /// is one whose files lie in memory.
 pub fn print(program: &Path, folder: &Path, memory: &Path, names: &[&str]) -> io::Result<()> {
     table::know(names, |name| NAMES.contains(&name))?;
@@ -406,9 +445,12 @@ pub fn print(program: &Path, folder: &Path, memory: &Path, names: &[&str]) -> io
         run(&programs.dali, &ROUND, "", &made)?;
     }
     if asked("restart") {
-        print_restart(&programs, "restart of the files that it left, in memory", copy, &made, &memory)?;
+        print_restart(&programs, "restart of the files that it left, in memory", 4.0, copy, &made, &memory)?;
         let whole = "restart from its whole log, without an image, in memory";
-        print_restart(&programs, whole, copy_log, &made, &memory)?;
+        print_restart(&programs, whole, 4.0, copy_log, &made, &memory)?;
+    }
+    if asked("behind") {
+        print_behind(&programs, &memory)?;
     }
     if asked("audit") {
         let words = ["copy", &REPEATS.to_string(), &REGIONS.to_string()];

@@ -1,4 +1,3 @@
 pub mod Amounts
 pub mod Calls
-pub mod Checkpoints
 pub mod Regions

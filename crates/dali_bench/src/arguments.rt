@@ -4,7 +4,7 @@ use clap::{Arg, ArgAction, ArgMatches, Command, value_parser};
 use std::alloc::{AllocError, Global};
 
 /// What a subcommand does.
-#[derive(Clone, Copy, Debug, PartialEq, Eq)]
+#[derive(Clone, Copy, PartialEq, Eq)]
 pub enum Task {
     /// Encodes and decodes records.
     Codec,
@@ -36,25 +36,11 @@ pub enum Task {
     Delete,
     /// Makes calls that insert, ten a transaction.
     Tens,
-    /// Audits all regions.
-    Audit,
-    /// Makes the first checkpoint of a database, in a new folder within a folder.
-    Checkpoint,
-    /// Makes checkpoints of regions that no image lacks, in a new folder within a folder.
-    Clean,
-    /// Makes checkpoints of regions of which the images lack one, in a new folder within a folder.
-    Dirty,
-    /// Makes the files of a database with updates behind its image, in a folder.
-    Fill,
-    /// The same, with an audit that fails behind them.
-    Damage,
-    /// Restarts the database in a folder.
-    Recover,
     /// Does a little of each, in a new folder within a folder.
     Small,
 }
 
-const TASKS: [Task; 23] = [
+const TASKS: [Task; 16] = [
     Task::Codec,
     Task::Locks,
     Task::Update,
@@ -70,13 +56,6 @@ const TASKS: [Task; 23] = [
     Task::Change,
     Task::Delete,
     Task::Tens,
-    Task::Audit,
-    Task::Checkpoint,
-    Task::Clean,
-    Task::Dirty,
-    Task::Fill,
-    Task::Damage,
-    Task::Recover,
     Task::Small,
 ];
 
@@ -98,13 +77,6 @@ impl Task {
             Task::Change => "change",
             Task::Delete => "delete",
             Task::Tens => "tens",
-            Task::Audit => "audit",
-            Task::Checkpoint => "checkpoint",
-            Task::Clean => "clean",
-            Task::Dirty => "dirty",
-            Task::Fill => "fill",
-            Task::Damage => "damage",
-            Task::Recover => "recover",
             Task::Small => "small",
         }
     }
@@ -127,42 +99,21 @@ impl Task {
             Task::Change => "Makes COUNT calls that update, five a transaction",
             Task::Delete => "Makes COUNT calls that delete, five a transaction",
             Task::Tens => "Makes COUNT calls that insert, ten a transaction",
-            Task::Audit => "Audits COUNT regions ten times",
-            Task::Checkpoint =>
-                "Makes the first checkpoint of COUNT regions, in a folder within FOLDER",
-            Task::Clean =>
-                "Makes ten checkpoints of COUNT regions that no image lacks, in a folder within FOLDER",
-            Task::Dirty =>
-                "Makes ten checkpoints of COUNT regions, one of them written before each, in a folder within FOLDER",
-            Task::Fill =>
-                "Makes the files of 100,000 records and COUNT updates behind their image, in FOLDER",
-            Task::Damage => "The same, with an audit that fails behind the updates",
-            Task::Recover => "Restarts the database in FOLDER",
             Task::Small => "Does a little of each, in a folder within FOLDER, and prints ok",
         }
     }
 
     fn has_count(self) -> bool {
-        !matches!(self, Task::Recover | Task::Small)
+        self != Task::Small
     }
 
     fn has_folder(self) -> bool {
-        matches!(
-            self,
-            Task::Commit
-                | Task::Checkpoint
-                | Task::Clean
-                | Task::Dirty
-                | Task::Fill
-                | Task::Damage
-                | Task::Recover
-                | Task::Small
-        )
+        matches!(self, Task::Commit | Task::Small)
     }
 }
 
 /// What the command line asks for.
-#[derive(Clone, Copy, Debug)]
+#[derive(Clone, Copy)]
 pub struct Job<'a> {
     /// What is done.
     pub task: Task,

@@ -23,7 +23,7 @@ pub const LIMIT: u64 = 268_435_456;
 pub const CALLS: u32 = 5;
 
 /// What is done with each key.
-#[derive(Clone, Copy, Debug, PartialEq, Eq)]
+#[derive(Clone, Copy, PartialEq, Eq)]
 pub enum Kind {
     /// Its record is inserted.
     Insert,

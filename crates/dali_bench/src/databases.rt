@@ -1,7 +1,4 @@
 //! Databases that are made and filled.
-ghost use Rattle.std.specs.Prelude.{IfOk};
-ghost use Rattle.dali_whole.specs.Cores.{IsWholeCore};
-
 use crate::calls::{CALLS, Kind, LIMIT, begin, call_all, sizes_for, values};
 use crate::timing::Timing;
 use anyhow::{Result, ensure};
@@ -13,18 +10,14 @@ use dali_store::{FileName, Store};
 use dali_whole::Core;
 use dali_words::Value;
 use std::alloc::Global;
-use std::fs::{File, OpenFile};
-use std::io::Write;
-use std::rt::{Clock, Files};
+use std::rt::Clock;
 use std::time::{Duration, Instant};
 
 /// How many records are inserted in all while growth is timed, where the count of one database divides it.
 const RECORDS: u32 = 100_000;
 
 /// A new database of these sizes.
-pub fn make<V: Store + Drop>(alloc: Global, store: V, geometry: Geometry) -> Result<Core<V>>
-    ensures { IfOk result (λ core. IsWholeCore V.told core.regions.items core.system.state core.vault) }
-{
+pub fn make<V: Store + Drop>(alloc: Global, store: V, geometry: Geometry) -> Result<Core<V>> {
     match format(alloc, store, geometry, LIMIT) {
         Ok(core) => Ok(core),
         Err(refused) => Err(refused.error.into()),
@@ -132,19 +125,4 @@ pub fn grow(clock: &impl Clock, alloc: Global, count: u32) -> Result<Timing> {
     }
     let records = (rounds as u64 * transactions as u64).saturating_mul(CALLS as u64);
     Ok(Timing::new(records, "inserts", elapsed).checked(bytes))
-}
-
-/// Writes a file of a store in memory to a new file of a folder, and syncs it.
-pub fn write_file<R: Files>(
-    rt: &R,
-    alloc: Global,
-    store: &MemoryStore,
-    file: FileName,
-    folder: &str,
-) -> Result<()> {
-    let path = format!(in alloc; "{folder}/dali.{file}")?;
-    let mut to = File::create_new(rt, path.as_str())?;
-    to.write_all(store.file(file))?;
-    to.sync_all()?;
-    Ok(())
 }

@@ -2,14 +2,11 @@
 #![tactic(auto)]
 
 mod arguments;
-mod audits;
 mod calls;
-mod checkpoints;
 mod codec;
 mod databases;
 mod keys;
 mod locks;
-mod recoveries;
 mod regions;
 mod scripts;
 mod shared;
@@ -19,7 +16,6 @@ use anyhow::{Context, Result, bail};
 use arguments::{Job, Task};
 use calls::Kind;
 use dali_filestore::FileStore;
-use dali_store::FileName;
 use std::io::ErrorKind;
 use std::process::ExitCode;
 use std::{env, fs};
@@ -56,52 +52,6 @@ fn time_commits(rt: &HostRuntime, count: u32, within: &str) -> Result<Timing> {
     remove(rt, folder.as_str(), timing)
 }
 
-fn time_checkpoint(rt: &HostRuntime, count: u32, within: &str) -> Result<Timing> {
-    let folder = make_folder(rt, within)?;
-    let store = FileStore::in_folder(rt, folder.as_str());
-    let timing = checkpoints::run_first(rt, rt.alloc(), store, count);
-    remove(rt, folder.as_str(), timing)
-}
-
-fn time_clean(rt: &HostRuntime, count: u32, within: &str) -> Result<Timing> {
-    let folder = make_folder(rt, within)?;
-    let store = FileStore::in_folder(rt, folder.as_str());
-    let timing = checkpoints::run_clean(rt, rt.alloc(), store, count);
-    remove(rt, folder.as_str(), timing)
-}
-
-fn time_dirty(rt: &HostRuntime, count: u32, within: &str) -> Result<Timing> {
-    let folder = make_folder(rt, within)?;
-    let store = FileStore::in_folder(rt, folder.as_str());
-    let timing = checkpoints::run_dirty(rt, rt.alloc(), store, count);
-    remove(rt, folder.as_str(), timing)
-}
-
-// The four files of a database.
-fn make_files(
-    rt: &HostRuntime,
-    records: u32,
-    updates: u32,
-    damaged: bool,
-    folder: &str,
-) -> Result<()> {
-    let alloc = rt.alloc();
-    let store = recoveries::fill(alloc, records, updates, damaged)?;
-    for file in [
-        FileName::Log,
-        FileName::ImageA,
-        FileName::ImageB,
-        FileName::Anchor,
-    ] {
-        databases::write_file(rt, alloc, &store, file, folder)?;
-    }
-    Ok(())
-}
-
-fn time_recovery(rt: &HostRuntime, folder: &str) -> Result<Timing> {
-    recoveries::recover(rt, rt.alloc(), FileStore::in_folder(rt, folder))
-}
-
 // Does a little of each that has no files.
 fn run_small(rt: &HostRuntime) -> Result<()> {
     let alloc = rt.alloc();
@@ -115,21 +65,6 @@ fn run_small(rt: &HostRuntime) -> Result<()> {
     databases::grow(rt, alloc, 100)?;
     databases::commit_in_memory(rt, alloc, 10)?;
     calls::run(rt, alloc, Kind::Delete, 100)?;
-    audits::run(rt, alloc, 6)?;
-    Ok(())
-}
-
-// Does a little of each that has files, in folders within this one.
-fn run_small_within(rt: &HostRuntime, folder: &str) -> Result<()> {
-    time_checkpoint(rt, 6, folder)?;
-    time_clean(rt, 6, folder)?;
-    time_commits(rt, 3, folder)?;
-    time_dirty(rt, 6, folder)?;
-    for damaged in [false, true] {
-        let files = make_folder(rt, folder)?;
-        make_files(rt, 20, 50, damaged, files.as_str())?;
-        time_recovery(rt, files.as_str())?;
-    }
     Ok(())
 }
 
@@ -137,10 +72,8 @@ fn run_small_within(rt: &HostRuntime, folder: &str) -> Result<()> {
 fn run_all(rt: &HostRuntime, within: &str) -> Result<()> {
     run_small(rt)?;
     let folder = make_folder(rt, within)?;
-    let small = run_small_within(rt, folder.as_str());
-    let removed = fs::remove_dir_all(rt, folder.as_str());
-    small?;
-    removed?;
+    let timing = time_commits(rt, 3, folder.as_str());
+    remove(rt, folder.as_str(), timing)?;
     Ok(())
 }
 
@@ -162,14 +95,7 @@ fn run_job(rt: &HostRuntime, job: &Job) -> Result<()> {
         Task::Change => calls::run(rt, alloc, Kind::Update, count)?,
         Task::Delete => calls::run(rt, alloc, Kind::Delete, count)?,
         Task::Tens => calls::run_tens(rt, alloc, count)?,
-        Task::Audit => audits::run(rt, alloc, count)?,
         Task::Commit => time_commits(rt, count, job.folder)?,
-        Task::Checkpoint => time_checkpoint(rt, count, job.folder)?,
-        Task::Clean => time_clean(rt, count, job.folder)?,
-        Task::Dirty => time_dirty(rt, count, job.folder)?,
-        Task::Recover => time_recovery(rt, job.folder)?,
-        Task::Fill => return make_files(rt, recoveries::RECORDS, count, false, job.folder),
-        Task::Damage => return make_files(rt, recoveries::RECORDS, count, true, job.folder),
         Task::Small => {
             run_all(rt, job.folder)?;
             println!(rt; "ok")?;

@@ -7,7 +7,7 @@ use std::time::{Duration, Instant};
 use std::{fmt, io};
 
 /// So many things, in so long, with a number that tells whether both sides of the benches did the same.
-#[derive(Clone, Copy, Debug)]
+#[derive(Clone, Copy)]
 pub struct Timing {
     /// How many things were done.
     pub count: u64,
