@@ -7,6 +7,3 @@ mod table;
 
 pub use state::State;
 pub use table::Att;
-
-#[cfg(test)]
-mod tests;

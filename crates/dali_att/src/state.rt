@@ -1,7 +1,7 @@
 //! How far a transaction has come.
 
 /// Where a transaction stands.
-#[derive(Clone, Copy, Debug, PartialEq, Eq)]
+#[derive(Clone, Copy, PartialEq, Eq)]
 pub enum State {
     /// Its client works on it.
     Live,

@@ -21,7 +21,7 @@ use std::marker::Model;
 use std::mem;
 
 /// What an audit knows of a region.
-#[derive(Clone, Copy, Debug, PartialEq, Eq)]
+#[derive(Clone, Copy, PartialEq, Eq)]
 pub enum Finding {
     /// It wasn't passed yet.
     Waiting,
@@ -57,7 +57,7 @@ impl Model for Audit {
 
 /// What an audit found: the number of the record with which it began, and the regions whose words hadn't the parity of
 /// their codeword, ascending.
-#[derive(Debug, Drop)]
+#[derive(Drop)]
 pub struct Verdict {
     begin: u64,
     failing: Vec<u32>,

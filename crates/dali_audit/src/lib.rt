@@ -5,6 +5,3 @@ mod audit;
 pub mod laws;
 
 pub use audit::{Audit, Finding, Verdict};
-
-#[cfg(test)]
-mod tests;

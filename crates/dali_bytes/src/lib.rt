@@ -11,6 +11,3 @@ mod writing;
 pub use error::{OutOfMemory, Short};
 pub use reader::Reader;
 pub use writing::{put, put_byte, put32, put64};
-
-#[cfg(test)]
-mod tests;

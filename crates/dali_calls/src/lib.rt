@@ -11,6 +11,3 @@ pub use changes::Changes;
 pub use plan::{Phase, Plan};
 pub use stage::Stage;
 pub use writing::{write_all, write_back};
-
-#[cfg(test)]
-mod tests;

@@ -33,7 +33,7 @@ use dali_region::{LatchError, Receipt, Region};
 use std::marker::Model;
 
 /// Where a plan stands.
-#[derive(Clone, Copy, Debug, PartialEq, Eq)]
+#[derive(Clone, Copy, PartialEq, Eq)]
 pub enum Phase {
     /// It makes the operations of its call.
     Calling,

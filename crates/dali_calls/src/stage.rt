@@ -13,7 +13,7 @@ use dali_geometry::Geometry;
 use dali_record::{Answer, Block, Call, Op, Outcome};
 
 /// How far a call has come.
-#[derive(Clone, Copy, Debug, PartialEq, Eq)]
+#[derive(Clone, Copy, PartialEq, Eq)]
 pub enum Stage {
     /// No block yet.
     Fresh,

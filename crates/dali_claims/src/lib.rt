@@ -4,6 +4,3 @@
 mod claim;
 
 pub use claim::{ClaimSeat, Claims};
-
-#[cfg(test)]
-mod tests;

@@ -6,7 +6,7 @@ ghost use Rattle.dali_clients.specs.Told.{act_of};
 use dali_record::Call;
 
 /// A command of a client.
-#[derive(Clone, Copy, Debug, PartialEq, Eq)]
+#[derive(Clone, Copy, PartialEq, Eq)]
 pub enum Command {
     /// Begins a transaction.
     Begin,
@@ -37,7 +37,7 @@ impl Command {
 }
 
 /// What a client does in a round.
-#[derive(Debug, Drop)]
+#[derive(Drop)]
 pub struct Block {
     /// The client's number, 1 to 64.
     pub client: u32,

@@ -12,6 +12,3 @@ mod transcript;
 pub use command::{Block, Command};
 pub use line::{Line, Why};
 pub use transcript::Transcript;
-
-#[cfg(test)]
-mod tests;

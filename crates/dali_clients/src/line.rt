@@ -5,7 +5,7 @@ use dali_record::{Answer, Call, Regions};
 use dali_system::Cause;
 
 /// Why a command was refused.
-#[derive(Clone, Copy, Debug, PartialEq, Eq)]
+#[derive(Clone, Copy, PartialEq, Eq)]
 pub enum Why {
     /// The engine is stopped.
     Stopped {
@@ -29,7 +29,7 @@ pub enum Why {
 }
 
 /// A line of a client, without its number.
-#[derive(Debug, PartialEq, Eq, Drop)]
+#[derive(PartialEq, Eq, Drop)]
 pub enum Line {
     /// A transaction has begun.
     Begun { txn: u64 },

@@ -1,7 +1,7 @@
 //! What a plan needs next.
 
 /// What a plan needs next, be it of a call, of a taking back or of a clean-up.
-#[derive(Clone, Copy, Debug, PartialEq, Eq)]
+#[derive(Clone, Copy, PartialEq, Eq)]
 pub enum Want {
     /// This region: its latch, its updates and the operation's commit.
     Region { region: u32 },

@@ -1,5 +1,4 @@
 //! What no clause says of a system and of clean-ups: that calls succeed with ample memory, and what stands then.
-mod cleans;
 mod cleanups;
 mod operations;
 mod systems;

@@ -21,6 +21,3 @@ mod lines;
 
 pub use dumping::dump;
 pub use error::DumpError;
-
-#[cfg(test)]
-mod tests;

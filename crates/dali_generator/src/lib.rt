@@ -13,6 +13,3 @@ mod transactions;
 pub use numbers::{heap_regions, index_regions};
 pub use texts::summary;
 pub use transactions::blocks;
-
-#[cfg(test)]
-mod tests;

@@ -25,7 +25,7 @@ pub const MAX_HEAP: u32 = 65_536;
 pub struct OutOfRange;
 
 /// How many index regions and heap regions there are.
-#[derive(Clone, Copy, Debug, PartialEq, Eq)]
+#[derive(Clone, Copy, PartialEq, Eq)]
 pub struct Geometry {
     index: u32,
     heap: u32,
@@ -149,63 +149,5 @@ impl Geometry {
             words[0] = 1;
         }
         words
-    }
-}
-
-#[cfg(test)]
-mod tests {
-    use super::*;
-    use std::test::Fail;
-
-    #[test]
-    fn sizes_in_range(rt: HostRuntime) {
-        let cases = [
-            (1, 1, true),
-            (32_768, 65_536, true),
-            (0, 1, false),
-            (1, 0, false),
-            (32_769, 1, false),
-            (1, 65_537, false),
-            (u32::MAX, u32::MAX, false),
-        ];
-        for (index, heap, good) in cases {
-            assert_eq!(rt; Geometry::new(index, heap).is_ok(), good, "{index} {heap}");
-        }
-    }
-
-    #[test]
-    fn limits_and_the_refusal(rt: HostRuntime) -> Result<(), Fail> {
-        assert_eq!(rt; (MAX_INDEX, MAX_HEAP), (32_768, 65_536));
-        assert_eq!(rt; Geometry::new(0, 0), Err(OutOfRange));
-        let text = format!(in rt.alloc(); "{}", OutOfRange)?;
-        assert_eq!(rt;
-            text.as_str(),
-            "a database has 1 to 32768 index regions and 1 to 65536 heap regions"
-        );
-        Ok(())
-    }
-
-    // Two index regions, 0 and 1, and four heap regions, 2 to 5.
-    #[test]
-    fn regions_and_places(rt: HostRuntime) -> Result<(), OutOfRange> {
-        let geometry = Geometry::new(2, 4)?;
-        assert_eq!(rt;
-            (geometry.index(), geometry.heap(), geometry.regions()),
-            (2, 4, 6)
-        );
-        assert_eq!(rt; (geometry.home(42), geometry.home(43)), (0, 1));
-        assert_eq!(rt; (geometry.next_index(0), geometry.next_index(1)), (1, 0));
-        assert_eq!(rt; (geometry.heap_start(1), geometry.heap_start(4)), (3, 2));
-        assert_eq!(rt; (geometry.next_heap(2), geometry.next_heap(5)), (3, 2));
-        assert_eq!(rt; geometry.place_of(2, 1), 17);
-        assert_eq!(rt; geometry.cell_of(17), Some((2, 1)));
-        for place in [0, 15, 16, 24, 48, 1 << 40] {
-            assert_eq!(rt; geometry.cell_of(place), None, "{place}");
-        }
-        let mut words = [0; 64];
-        assert_eq!(rt; geometry.formatted(1), words);
-        words[0] = 1;
-        assert_eq!(rt; geometry.formatted(2), words);
-        Ok(())
     }
 }

@@ -24,7 +24,7 @@ const LIVE: u64 = 1;
 const DEAD: u64 = 2;
 
 /// What storing a value found.
-#[derive(Clone, Copy, Debug, PartialEq, Eq)]
+#[derive(Clone, Copy, PartialEq, Eq)]
 pub enum PutOutcome {
     /// It is in this cell, which was the first free one.
     Put { cell: u8 },
@@ -33,7 +33,7 @@ pub enum PutOutcome {
 }
 
 /// What reading a cell found.
-#[derive(Clone, Copy, Debug, PartialEq, Eq)]
+#[derive(Clone, Copy, PartialEq, Eq)]
 pub enum ReadOutcome {
     /// The state isn't that of a live cell.
     NotLive { state: u64 },
@@ -46,7 +46,7 @@ pub enum ReadOutcome {
 }
 
 /// What changing a cell found.
-#[derive(Clone, Copy, Debug, PartialEq, Eq)]
+#[derive(Clone, Copy, PartialEq, Eq)]
 pub enum ChangeOutcome {
     /// The state isn't that of a live cell.
     NotLive { state: u64 },
@@ -232,126 +232,4 @@ pub fn restore(words: &[u64; 64], cell: u8, length: u64, value: &[u64; 5]) -> Ef
     let mut news = [length, 0, 0, 0, 0, 0];
     news[1..].copy_from_slice(value);
     Effect::writing(words, bits(first, 6), first, &news)
-}
-
-#[cfg(test)]
-mod tests {
-    use super::*;
-    use std::test::Fail;
-
-    const ABC: [u64; 5] = [0x6162_6300_0000_0000, 0, 0, 0, 0];
-
-    // The words of a heap region in which nothing is stored.
-    fn formatted() -> [u64; 64] {
-        let mut words = [0; 64];
-        words[0] = 1;
-        words
-    }
-
-    #[test]
-    fn a_value_is_stored_and_read(rt: HostRuntime) -> Result<(), Fail> {
-        let abc = Value::from_bytes(b"abc").ok_or("no value")?;
-        let words = formatted();
-        let (effect, outcome) = put(&words, 5, &abc);
-        assert_eq!(rt; (effect.read, effect.write), (0xff00, 0xff00));
-        assert_eq!(rt; outcome, PutOutcome::Put { cell: 1 });
-        assert_eq!(rt;
-            effect.after[..16],
-            [1, 0, 0, 0, 0, 0, 0, 0, 1, 5, 3, ABC[0], 0, 0, 0, 0][..]
-        );
-        let (second, outcome) = put(&effect.after, 6, &abc);
-        assert_eq!(rt; (second.read, second.write), (0xff_0100, 0xff_0000));
-        assert_eq!(rt; outcome, PutOutcome::Put { cell: 2 });
-        let (found, outcome) = read(&effect.after, 1, 5);
-        assert_eq!(rt; (found.read, found.write), (0xff00, 0));
-        assert_eq!(rt; found.after, effect.after);
-        assert_eq!(rt; outcome, ReadOutcome::Value { value: abc });
-        Ok(())
-    }
-
-    #[test]
-    fn damaged_words_are_told(rt: HostRuntime) -> Result<(), Fail> {
-        let abc = Value::from_bytes(b"abc").ok_or("no value")?;
-        let (effect, outcome) = read(&formatted(), 1, 5);
-        assert_eq!(rt; (effect.read, effect.write), (0x100, 0));
-        assert_eq!(rt; outcome, ReadOutcome::NotLive { state: 0 });
-        let mut words = put(&formatted(), 5, &abc).0.after;
-        let (effect, outcome) = read(&words, 1, 6);
-        assert_eq!(rt;
-            (effect.read, outcome),
-            (0x300, ReadOutcome::OtherKey { key: 5 })
-        );
-        words[10] = 1 << 40;
-        let (effect, outcome) = read(&words, 1, 5);
-        assert_eq!(rt;
-            (effect.read, outcome),
-            (0x700, ReadOutcome::OddLength { length: 1 << 40 })
-        );
-        let (effect, outcome) = change(&words, 1, 5, &abc);
-        assert_eq!(rt; (effect.read, effect.write), (0x700, 0));
-        assert_eq!(rt; effect.after, words);
-        assert_eq!(rt; outcome, ChangeOutcome::OddLength { length: 1 << 40 });
-        let (effect, outcome) = kill(&words, 1, 5);
-        assert_eq!(rt; (effect.read, effect.write), (0x700, 0));
-        assert_eq!(rt; effect.after, words);
-        assert_eq!(rt; outcome, KillOutcome::OddLength { length: 1 << 40 });
-        words[8] = 7;
-        let (effect, outcome) = kill(&words, 1, 5);
-        assert_eq!(rt;
-            (effect.read, outcome),
-            (0x100, KillOutcome::NotLive { state: 7 })
-        );
-        let (effect, outcome) = put(&[7; 64], 5, &abc);
-        assert_eq!(rt; (effect.read, effect.write), (0x0101_0101_0101_0100, 0));
-        assert_eq!(rt; outcome, PutOutcome::NoCell);
-        Ok(())
-    }
-
-    // A dead cell is passed, and keeps its words.
-    #[test]
-    fn a_put_passes_a_dead_cell(rt: HostRuntime) -> Result<(), Fail> {
-        let abc = Value::from_bytes(b"abc").ok_or("no value")?;
-        let words = put(&formatted(), 5, &abc).0.after;
-        let words = kill(&words, 1, 5).0.after;
-        let (effect, outcome) = put(&words, 6, &abc);
-        assert_eq!(rt; (effect.read, effect.write), (0xff_0100, 0xff_0000));
-        assert_eq!(rt; outcome, PutOutcome::Put { cell: 2 });
-        assert_eq!(rt;
-            effect.after[8..24],
-            [2, 5, 3, ABC[0], 0, 0, 0, 0, 1, 6, 3, ABC[0], 0, 0, 0, 0][..]
-        );
-        Ok(())
-    }
-
-    #[test]
-    fn changes_and_their_undoing(rt: HostRuntime) -> Result<(), Fail> {
-        let abc = Value::from_bytes(b"abc").ok_or("no value")?;
-        let longer = Value::from_bytes(b"123456789").ok_or("no value")?;
-        let words = put(&formatted(), 5, &abc).0.after;
-        let (changed, outcome) = change(&words, 1, 5, &longer);
-        assert_eq!(rt; (changed.read, changed.write), (0xff00, 0xfc00));
-        assert_eq!(rt; outcome, ChangeOutcome::Changed);
-        assert_eq!(rt;
-            read(&changed.after, 1, 5).1,
-            ReadOutcome::Value { value: longer }
-        );
-        let back = restore(&changed.after, 1, words[10], &value_words(&words, 1));
-        assert_eq!(rt; (back.read, back.write), (0xfc00, 0xfc00));
-        assert_eq!(rt; back.after, words);
-        let (killed, outcome) = kill(&words, 1, 5);
-        assert_eq!(rt;
-            (killed.read, killed.write, killed.after[8]),
-            (0x700, 0x100, 2)
-        );
-        assert_eq!(rt; outcome, KillOutcome::Killed);
-        let revived = revive(&killed.after, 1);
-        assert_eq!(rt; (revived.read, revived.write), (0x100, 0x100));
-        assert_eq!(rt; revived.after, words);
-        let freed = free(&killed.after, 1);
-        assert_eq!(rt;
-            (freed.read, freed.write, freed.after[8]),
-            (0x100, 0x100, 0)
-        );
-        Ok(())
-    }
 }

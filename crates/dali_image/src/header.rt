@@ -19,7 +19,7 @@ pub(crate) const SIZE: usize = 64;
 const MARK: [u8; 8] = *b"DALIIMG1";
 
 /// What the header of an image file says.
-#[derive(Clone, Copy, Debug, PartialEq, Eq)]
+#[derive(Clone, Copy, PartialEq, Eq)]
 pub struct Header {
     /// The sizes of the database.
     pub geometry: Geometry,
@@ -38,7 +38,7 @@ pub struct Header {
 }
 
 /// What the log and the anchor say of the current image.
-#[derive(Clone, Copy, Debug, PartialEq, Eq)]
+#[derive(Clone, Copy, PartialEq, Eq)]
 pub struct Expected {
     /// The sizes in the log's Format.
     pub geometry: Geometry,

@@ -26,7 +26,7 @@ const LIVE: u64 = 1;
 const DEAD: u64 = 2;
 
 /// What looking for a key found.
-#[derive(Clone, Copy, Debug, PartialEq, Eq)]
+#[derive(Clone, Copy, PartialEq, Eq)]
 pub enum LookOutcome {
     /// This live entry has the key, and names this place.
     Found { entry: u8, place: u64 },
@@ -35,7 +35,7 @@ pub enum LookOutcome {
 }
 
 /// What adding an entry found.
-#[derive(Clone, Copy, Debug, PartialEq, Eq)]
+#[derive(Clone, Copy, PartialEq, Eq)]
 pub enum AddOutcome {
     /// It is this entry, which was the first free one.
     Added { entry: u8 },
@@ -158,93 +158,4 @@ pub fn revive(words: &[u64; 64], entry: u8) -> Effect
 {
     let state = 3 * entry + 1;
     Effect::writing(words, bit(state), state, &[LIVE])
-}
-
-#[cfg(test)]
-mod tests {
-    use super::*;
-
-    #[test]
-    fn an_entry_is_added_and_found(rt: HostRuntime) {
-        let (effect, outcome) = add(&[0; 64], 5, 17);
-        assert_eq!(rt; (effect.read, effect.write), (0xe, 0xe));
-        assert_eq!(rt; outcome, AddOutcome::Added { entry: 0 });
-        assert_eq!(rt; effect.after[..5], [0, 1, 5, 17, 0][..]);
-        let words = add(&effect.after, 6, 18).0.after;
-        let (found, outcome) = look(&words, 6);
-        assert_eq!(rt; (found.read, found.write), (0x76, 0));
-        assert_eq!(rt; found.after, words);
-        assert_eq!(rt;
-            outcome,
-            LookOutcome::Found {
-                entry: 1,
-                place: 18
-            }
-        );
-        let (absent, outcome) = look(&words, 7);
-        assert_eq!(rt; (absent.read, absent.write), (0x2492_4924_9249_24b7, 0));
-        assert_eq!(rt; outcome, LookOutcome::Absent { overflow: false });
-    }
-
-    #[test]
-    fn a_full_region_overflows(rt: HostRuntime) {
-        let mut words = [0; 64];
-        for key in 0..21 {
-            words = add(&words, key, 8).0.after;
-        }
-        let (effect, outcome) = add(&words, 21, 8);
-        assert_eq!(rt; outcome, AddOutcome::NoEntry);
-        assert_eq!(rt; (effect.read, effect.write), (0x2492_4924_9249_2493, 1));
-        assert_eq!(rt; effect.after[0], 1);
-        let (effect, outcome) = add(&effect.after, 21, 8);
-        assert_eq!(rt; outcome, AddOutcome::NoEntry);
-        assert_eq!(rt; (effect.read, effect.write), (0x2492_4924_9249_2493, 0));
-        assert_eq!(rt;
-            look(&effect.after, 21).1,
-            LookOutcome::Absent { overflow: true }
-        );
-        assert_eq!(rt;
-            look(&effect.after, 20).1,
-            LookOutcome::Found {
-                entry: 20,
-                place: 8
-            }
-        );
-    }
-
-    #[test]
-    fn a_killed_entry_is_passed(rt: HostRuntime) {
-        let words = add(&[0; 64], 5, 17).0.after;
-        let (killed, outcome) = kill(&words, 0, 5);
-        assert_eq!(rt; (killed.read, killed.write, killed.after[1]), (0x6, 0x2, 2));
-        assert_eq!(rt; outcome, KillOutcome::Killed);
-        let (passed, outcome) = look(&killed.after, 5);
-        assert_eq!(rt; (passed.read, passed.write), (0x2492_4924_9249_2493, 0));
-        assert_eq!(rt; outcome, LookOutcome::Absent { overflow: false });
-        assert_eq!(rt;
-            kill(&killed.after, 0, 5).1,
-            KillOutcome::NotLive { state: 2 }
-        );
-        assert_eq!(rt; kill(&words, 0, 6).1, KillOutcome::OtherKey { key: 5 });
-        let revived = revive(&killed.after, 0);
-        assert_eq!(rt; (revived.read, revived.write), (0x2, 0x2));
-        assert_eq!(rt; revived.after, words);
-        let freed = free(&killed.after, 0);
-        assert_eq!(rt; (freed.read, freed.write, freed.after[1]), (0x2, 0x2, 0));
-    }
-    // Any flag but 0 says that the walk goes on, and stays as it is.
-    #[test]
-    fn a_damaged_overflow_flag_counts_as_raised(rt: HostRuntime) {
-        for flag in [1, 7, u64::MAX] {
-            let mut words = [7; 64];
-            words[0] = flag;
-            let (effect, outcome) = look(&words, 5);
-            assert_eq!(rt; (effect.read, effect.write), (0x2492_4924_9249_2493, 0));
-            assert_eq!(rt; outcome, LookOutcome::Absent { overflow: true });
-            let (effect, outcome) = add(&words, 5, 17);
-            assert_eq!(rt; (effect.read, effect.write), (0x2492_4924_9249_2493, 0));
-            assert_eq!(rt; effect.after, words);
-            assert_eq!(rt; outcome, AddOutcome::NoEntry);
-        }
-    }
 }

@@ -25,7 +25,7 @@ const LIVE: u64 = 1;
 const ENTRIES: u8 = 21;
 
 /// A record: a key with its value. Records are ordered by key, and those of one key by value.
-#[derive(Clone, Copy, Debug, PartialEq, Eq, PartialOrd, Ord, Drop)]
+#[derive(Clone, Copy, PartialEq, Eq, PartialOrd, Ord, Drop)]
 pub struct Listed {
     pub key: u64,
     pub value: Value,
@@ -153,6 +153,3 @@ pub fn records(
     rows.dedup();
     Ok(rows)
 }
-
-#[cfg(test)]
-mod tests;

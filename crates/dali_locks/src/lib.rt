@@ -6,6 +6,3 @@ mod table;
 
 pub use mode::{LockAnswer, Mode};
 pub use table::LockTable;
-
-#[cfg(test)]
-mod tests;

@@ -4,7 +4,7 @@ ghost use Rattle.std.specs.Prelude.{◌≡◌, not};
 ghost use Rattle.dali_locks.specs.Locks.{both_shared, stronger_mode};
 
 /// How a transaction holds a key.
-#[derive(Clone, Copy, Debug, PartialEq, Eq)]
+#[derive(Clone, Copy, PartialEq, Eq)]
 pub enum Mode {
     /// Beside others that share it.
     Shared,
@@ -32,7 +32,7 @@ impl Mode {
 }
 
 /// What a request for a lock is answered.
-#[derive(Clone, Copy, Debug, PartialEq, Eq)]
+#[derive(Clone, Copy, PartialEq, Eq)]
 pub enum LockAnswer {
     /// The transaction holds the key in the mode that it asked for, or in a stronger one.
     Granted,

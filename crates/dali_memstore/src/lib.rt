@@ -12,6 +12,3 @@ mod watch;
 pub use fuse::Fuse;
 pub use memory::MemoryStore;
 pub use watch::{CallKind, Hook, Watch};
-
-#[cfg(test)]
-mod tests;

@@ -5,7 +5,7 @@ ghost use Rattle.dali_memstore.specs.Watch.{watched, hook_of};
 use dali_store::{FileName, Store, StoreFault};
 
 /// The kinds of calls of a store.
-#[derive(Clone, Copy, Debug, PartialEq, Eq)]
+#[derive(Clone, Copy, PartialEq, Eq)]
 pub enum CallKind {
     Length,
     Read,

@@ -4,6 +4,3 @@
 mod history;
 
 pub use history::{Note, Notes, Tells};
-
-#[cfg(test)]
-mod tests;

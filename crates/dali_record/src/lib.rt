@@ -20,6 +20,3 @@ pub use kinds::on_kind;
 pub use lists::{Numbers, Regions, Words};
 pub use operations::{Block, Op, Outcome, Pending, Undo};
 pub use records::{Answer, Call, Record};
-
-#[cfg(test)]
-mod tests;

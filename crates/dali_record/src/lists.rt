@@ -2,7 +2,6 @@
 ghost use Rattle.std.specs.Prelude.{◌≡◌, ◌<◌, ◌≤◌, [], ◌∷◌, ◌++◌, length};
 ghost use Rattle.dali_words.specs.Words.{under};
 
-use std::fmt;
 use std::marker::Model;
 
 /// How many words a region has.
@@ -95,17 +94,8 @@ impl Eq for Words {
     ghost laws = { nat_list_eq_equiv };
 }
 
-impl fmt::Debug for Words {
-    // the words alone, without what lies in the cells behind them
-    fn fmt<W: fmt::Write>(&self, f: &mut fmt::Formatter<W>) -> fmt::Result {
-        f.debug_struct("Words")
-            .field("words", &self.as_slice())
-            .finish()
-    }
-}
-
 /// Numbers of transactions.
-#[derive(Debug, Drop)]
+#[derive(Drop)]
 pub struct Numbers {
     numbers: Vec<u64>,
 }

@@ -2,7 +2,7 @@ use crate::lists::Words;
 use dali_words::Value;
 
 /// What an operation does in its region. Entries are numbered from 0 to 20, cells from 1 to 7.
-#[derive(Clone, Copy, Debug, PartialEq, Eq)]
+#[derive(Clone, Copy, PartialEq, Eq)]
 pub enum Op {
     /// Looks for the live entry with the key.
     Look,
@@ -56,7 +56,7 @@ pub enum Op {
 }
 
 /// What an operation found.
-#[derive(Clone, Copy, Debug, PartialEq, Eq)]
+#[derive(Clone, Copy, PartialEq, Eq)]
 pub enum Outcome {
     /// The look found the key at this entry, with this place.
     Found { entry: u8, place: u64 },
@@ -87,7 +87,7 @@ pub enum Outcome {
 }
 
 /// What takes a change back.
-#[derive(Clone, Copy, Debug, PartialEq, Eq)]
+#[derive(Clone, Copy, PartialEq, Eq)]
 pub enum Undo {
     /// Frees the cell of a put.
     FreeCell {
@@ -114,7 +114,7 @@ pub enum Undo {
 }
 
 /// One operation as it is logged. A set of words is a mask in which bit i stands for word i of the region.
-#[derive(Debug, Drop, PartialEq, Eq)]
+#[derive(Drop, PartialEq, Eq)]
 pub struct Block {
     /// The key of the item that the operation is on.
     pub key: u64,
@@ -135,7 +135,7 @@ pub struct Block {
 }
 
 /// An undo with its item and region.
-#[derive(Clone, Copy, Debug, PartialEq, Eq)]
+#[derive(Clone, Copy, PartialEq, Eq)]
 pub struct Pending {
     /// The key of the item.
     pub key: u64,

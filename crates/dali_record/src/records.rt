@@ -3,7 +3,7 @@ use crate::operations::Block;
 use dali_words::Value;
 
 /// A call on a record.
-#[derive(Clone, Copy, Debug, PartialEq, Eq)]
+#[derive(Clone, Copy, PartialEq, Eq)]
 pub enum Call {
     /// Stores a record with this key and value.
     Insert { key: u64, value: Value },
@@ -16,7 +16,7 @@ pub enum Call {
 }
 
 /// What a call answered.
-#[derive(Clone, Copy, Debug, PartialEq, Eq)]
+#[derive(Clone, Copy, PartialEq, Eq)]
 pub enum Answer {
     /// The record was stored, changed or removed.
     Ok,
@@ -36,7 +36,7 @@ pub enum Answer {
 
 /// A record of the log. A transaction, a call on it and a block are said by number, so that the log alone tells what
 /// happened.
-#[derive(Debug, Drop, PartialEq, Eq)]
+#[derive(Drop, PartialEq, Eq)]
 pub enum Record {
     /// The first record of a log: so many index regions, from 1 to 32768, and heap regions, from 1 to 65536.
     Format {

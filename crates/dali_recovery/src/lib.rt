@@ -9,6 +9,3 @@ mod scan;
 
 pub use error::RecoveryError;
 pub use recovery::{Damage, Recovered, Recovery};
-
-#[cfg(test)]
-mod tests;

@@ -13,6 +13,3 @@ mod words;
 pub use error::RedoError;
 pub use image::Image;
 pub use redo::Redo;
-
-#[cfg(test)]
-mod tests;

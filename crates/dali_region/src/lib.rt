@@ -21,7 +21,7 @@ use std::mem::size_of;
 use thiserror::Error;
 
 /// The latch of a region: which transaction has it, and what its operation has read and written so far.
-#[derive(Clone, Copy, Debug, PartialEq, Eq)]
+#[derive(Clone, Copy, PartialEq, Eq)]
 pub struct Hold {
     /// The number of the transaction.
     pub txn: u64,
@@ -36,13 +36,13 @@ pub struct Hold {
 }
 
 /// The number of a log record that a call has made.
-#[derive(Clone, Copy, Debug, PartialEq, Eq)]
+#[derive(Clone, Copy, PartialEq, Eq)]
 pub struct Receipt {
     pub number: u64,
 }
 
 /// One of the two checkpoint images.
-#[derive(Clone, Copy, Debug, PartialEq, Eq)]
+#[derive(Clone, Copy, PartialEq, Eq)]
 pub enum Side {
     A,
     B,
@@ -357,179 +357,5 @@ impl Region {
             Side::A => self.dirty_a = false,
             Side::B => self.dirty_b = false,
         }
-    }
-}
-
-#[cfg(test)]
-mod tests {
-    use super::*;
-    use std::test::Fail;
-
-    // a heap region as it is formatted: word 0 is 1
-    fn formatted() -> [u64; 64] {
-        let mut words = [0; 64];
-        words[0] = 1;
-        words
-    }
-
-    #[test]
-    fn operations_on_a_formatted_region(rt: HostRuntime) -> Result<(), Fail> {
-        let mut region = Region::load(formatted());
-        assert_eq!(rt; (region.codeword(), region.touches()), (1, 0));
-        assert!(rt; region.dirty(Side::A) && region.dirty(Side::B));
-        region.clear_dirty(Side::A);
-        region.clear_dirty(Side::B);
-        assert!(rt; !region.dirty(Side::A) && !region.dirty(Side::B));
-
-        // words 0 and 8 are read and word 8 is written twice, then all is taken back
-        region.latch(5, true)?;
-        region.note_reads(0x101);
-        region.update(8, 6);
-        region.update(8, 2);
-        let hold = Hold {
-            txn: 5,
-            dead: false,
-            read: 0x101,
-            xor: 1,
-            write: 0x100,
-        };
-        assert_eq!(rt;
-            (region.hold(), region.codeword(), region.words()[8]),
-            (Some(hold), 3, 2)
-        );
-        let mut settled = [7; 64];
-        region.copy_settled(&mut settled);
-        assert_eq!(rt; (settled[0], settled[8], settled[63]), (1, 0, 0));
-        region.take_back();
-        assert_eq!(rt;
-            (region.hold(), region.codeword(), region.words()[8]),
-            (None, 1, 0)
-        );
-        assert!(rt; !region.dirty(Side::A));
-
-        // the same write done
-        region.latch(6, true)?;
-        region.note_reads(0x101);
-        region.update(8, 2);
-        region.touch();
-        assert_eq!(rt;
-            (
-                region.hold(),
-                region.codeword(),
-                region.words()[8],
-                region.touches()
-            ),
-            (None, 3, 2, 1)
-        );
-        assert!(rt; region.dirty(Side::A) && region.dirty(Side::B));
-        Ok(())
-    }
-
-    #[test]
-    fn refusals_and_a_poke(rt: HostRuntime) -> Result<(), Fail> {
-        let mut region = Region::load(formatted());
-        region.latch(5, true)?;
-        assert_eq!(rt;
-            region.latch(6, true),
-            Err(LatchError::Latched { holder: 5 })
-        );
-        region.mark_dead();
-        assert_eq!(rt;
-            region.latch(6, true),
-            Err(LatchError::DeadHolder { txn: 5 })
-        );
-        region.take_back();
-        assert_eq!(rt; region.check(), 0);
-        region.poke(11, 4);
-        assert_eq!(rt;
-            (region.check(), region.codeword(), region.words()[11]),
-            (4, 1, 4)
-        );
-        assert_eq!(rt;
-            region.latch(6, true),
-            Err(LatchError::Damaged {
-                codeword: 1,
-                found: 5
-            })
-        );
-        assert_eq!(rt; region.latch(6, false), Ok(()));
-        Ok(())
-    }
-    // The masks of two pokes cancel: the check answers 0 although two words are damaged.
-    #[test]
-    fn pokes_that_cancel(rt: HostRuntime) {
-        let mut region = Region::load(formatted());
-        for (word, mask, answer) in [(11, 1, 1), (12, 1, 0), (12, 6, 6), (63, 6, 0)] {
-            region.poke(word, mask);
-            assert_eq!(rt; region.check(), answer, "{word}");
-        }
-        assert_eq!(rt; (region.words()[11], region.words()[12]), (1, 7));
-        assert_eq!(rt; region.latch(5, true), Ok(()));
-    }
-
-    // A poke of a word that the operation has written is gone after the taking back, and the check still
-    // tells its mask; a poke of any other word stays.
-    #[test]
-    fn a_poke_and_a_taking_back(rt: HostRuntime) -> Result<(), Fail> {
-        for (word, left, answer) in [(8, 0, 4), (9, 4, 4)] {
-            let mut region = Region::load(formatted());
-            region.latch(5, false)?;
-            region.note_reads(0x300);
-            region.update(8, 2);
-            region.poke(word, 4);
-            region.take_back();
-            assert_eq!(rt; region.words()[8], if word == 8 { left } else { 0 });
-            assert_eq!(rt; region.words()[9], if word == 9 { left } else { 0 });
-            assert_eq!(rt; region.check(), answer, "{word}");
-        }
-        Ok(())
-    }
-
-    #[test]
-    fn reads_and_a_touch_without_a_write(rt: HostRuntime) -> Result<(), Fail> {
-        let mut words = formatted();
-        words[8] = 6;
-        words[9] = 9;
-        let mut region = Region::load(words);
-        region.clear_dirty(Side::A);
-        region.clear_dirty(Side::B);
-        region.latch(5, true)?;
-        region.note_reads(0x101);
-        region.note_reads(0x101);
-        let hold = region.hold().ok_or("no hold")?;
-        assert_eq!(rt; (hold.read, hold.xor, hold.write), (0x101, 7, 0));
-        region.note_reads(0x301);
-        let hold = region.hold().ok_or("no hold")?;
-        assert_eq!(rt; (hold.read, hold.xor, hold.write), (0x301, 14, 0));
-        region.touch();
-        assert_eq!(rt; (region.touches(), region.hold()), (1, None));
-        assert!(rt; !region.dirty(Side::A) && !region.dirty(Side::B));
-        Ok(())
-    }
-
-    #[test]
-    fn texts_of_refusals(rt: HostRuntime) -> Result<(), Fail> {
-        let cases = [
-            (
-                LatchError::Latched { holder: 5 },
-                "latched by transaction 5",
-            ),
-            (
-                LatchError::DeadHolder { txn: 5 },
-                "held by transaction 5, whose client is dead",
-            ),
-            (
-                LatchError::Damaged {
-                    codeword: 1,
-                    found: 0x6162_6300_0000_0000,
-                },
-                "damaged: codeword 0000000000000001, parity 6162630000000000",
-            ),
-        ];
-        for (error, text) in cases {
-            let printed = format!(in rt.alloc(); "{}", error)?;
-            assert_eq!(rt; printed.as_str(), text);
-        }
-        Ok(())
     }
 }

@@ -8,7 +8,7 @@ use dali_batch::Placed;
 use dali_record::{Record, length};
 
 /// What is counted of the records from the image's place on.
-#[derive(Clone, Copy, Debug, PartialEq, Eq)]
+#[derive(Clone, Copy, PartialEq, Eq)]
 pub struct Counts {
     /// How many they are.
     pub records: u64,
@@ -19,7 +19,7 @@ pub struct Counts {
 }
 
 /// What stands before the record of a restart, which is alone in its batch.
-#[derive(Clone, Copy, Debug, PartialEq, Eq)]
+#[derive(Clone, Copy, PartialEq, Eq)]
 pub struct BeforeRestart {
     /// The place of its batch in the log.
     pub place: u64,

@@ -26,7 +26,7 @@ use std::alloc::Global;
 
 /// Where a restart stands once it has recovered: what the log says without the record of the restart, and which image is
 /// the current one.
-#[derive(Clone, Copy, Debug, PartialEq, Eq)]
+#[derive(Clone, Copy, PartialEq, Eq)]
 pub struct Standing {
     /// The sizes of the database.
     pub geometry: Geometry,

@@ -10,6 +10,3 @@ mod top;
 
 pub use outcome::{OutOfMemory, Replay};
 pub use top::replay;
-
-#[cfg(test)]
-mod tests;

@@ -18,7 +18,7 @@ use dali_whole::Core;
 use std::alloc::{AllocError, Global};
 
 /// Where a log stands that nobody has at work: what a core over it begins with.
-#[derive(Clone, Copy, Debug, PartialEq, Eq)]
+#[derive(Clone, Copy, PartialEq, Eq)]
 pub struct Resting {
     /// The sizes of the database.
     pub geometry: Geometry,

@@ -21,7 +21,7 @@ use dali_whole::Core;
 use std::alloc::Global;
 
 /// How a round ended.
-#[derive(Clone, Copy, Debug, PartialEq, Eq)]
+#[derive(Clone, Copy, PartialEq, Eq)]
 pub enum RoundEnd {
     /// Each client is done.
     Done,

@@ -53,8 +53,8 @@ fn command(words: &[&str]) -> Option<Command> {
     })
 }
 
-/// The words of a text.
-pub fn words_of<'a>(alloc: Global, text: &'a str) -> Result<Vec<&'a str>> {
+// The words of a text.
+fn words_of<'a>(alloc: Global, text: &'a str) -> Result<Vec<&'a str>> {
     let mut words = Vec::new(alloc);
     for word in text.split_whitespace() {
         words.push(word)?;

@@ -12,6 +12,3 @@ pub use call::perform;
 pub use ending::abort;
 pub use error::{CallError, StepError};
 pub use settling::{commit, free, settle};
-
-#[cfg(test)]
-mod tests;

@@ -7,7 +7,7 @@ pub trait Gate {
 }
 
 /// A gate that returns at once.
-#[derive(Clone, Copy, Debug, PartialEq, Eq)]
+#[derive(Clone, Copy, PartialEq, Eq)]
 pub struct OpenGate;
 
 impl Gate for OpenGate {

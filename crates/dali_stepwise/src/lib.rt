@@ -12,6 +12,3 @@ pub use ending::answer;
 pub use gate::{Gate, GatePoint, OpenGate};
 pub use operation::{die, operate};
 pub use request::ask;
-
-#[cfg(test)]
-mod tests;

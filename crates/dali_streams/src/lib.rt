@@ -13,6 +13,3 @@ pub use memory::{MemorySink, MemorySource};
 pub use standard::{StdSink, StdSource};
 pub use streams::{Failed, Sink, Source};
 pub use whole::{ReadError, read_all, write_all};
-
-#[cfg(test)]
-mod tests;

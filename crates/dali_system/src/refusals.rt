@@ -3,7 +3,7 @@
 use dali_locks::Mode;
 
 /// A request for a lock that was answered Busy.
-#[derive(Clone, Copy, Debug, PartialEq, Eq)]
+#[derive(Clone, Copy, PartialEq, Eq)]
 pub struct Refusal {
     /// The transaction that asked.
     pub txn: u64,

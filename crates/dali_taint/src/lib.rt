@@ -6,6 +6,3 @@ mod taint;
 mod undos;
 
 pub use taint::{Judgement, Taint};
-
-#[cfg(test)]
-mod tests;

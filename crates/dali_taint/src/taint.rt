@@ -20,7 +20,7 @@ use std::alloc::{AllocError, Global};
 use std::collections::{BTreeSet, HashSet};
 
 /// What a restart does with a record.
-#[derive(Clone, Copy, Debug, PartialEq, Eq)]
+#[derive(Clone, Copy, PartialEq, Eq)]
 pub enum Judgement {
     /// It stays: a block's new words are written.
     Keep,

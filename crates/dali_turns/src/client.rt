@@ -13,7 +13,7 @@ use dali_record::Pending;
 use std::alloc::Global;
 
 /// A client's open transaction.
-#[derive(Clone, Copy, Debug)]
+#[derive(Clone, Copy)]
 pub(crate) struct Transaction<'a> {
     pub(crate) txn: u64,
     /// How many tries before it got Busy.

@@ -8,7 +8,7 @@ use dali_store::Store;
 use dali_whole::Core;
 
 /// An operation that has begun: its region is its client's until it is made, behind so many turns.
-#[derive(Clone, Copy, Debug)]
+#[derive(Clone, Copy)]
 pub(crate) struct Begun {
     pub(crate) region: u32,
     pub(crate) turns: u32,

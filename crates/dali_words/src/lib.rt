@@ -20,7 +20,7 @@ use std::marker::Model;
 const MAX_SIZE: usize = 40;
 
 /// A value: 1 to 40 bytes. Values are ordered byte by byte, a prefix first.
-#[derive(Clone, Copy, Debug)]
+#[derive(Clone, Copy)]
 pub struct Value {
     bytes: [u8; 40],
     count: u8,
@@ -153,7 +153,7 @@ pub fn unpack(length: u64, words: &[u64; 5]) -> Option<Value>
 }
 
 /// What an operation does to the 64 words of a region.
-#[derive(Clone, Copy, Debug, PartialEq, Eq)]
+#[derive(Clone, Copy, PartialEq, Eq)]
 pub struct Effect {
     /// The set of the words that it reads. The words that it writes are among them.
     pub read: u64,
@@ -193,7 +193,7 @@ impl Effect {
 }
 
 /// What killing a cell or an entry found.
-#[derive(Clone, Copy, Debug, PartialEq, Eq)]
+#[derive(Clone, Copy, PartialEq, Eq)]
 pub enum KillOutcome {
     /// The state isn't that of a live one.
     NotLive { state: u64 },
@@ -244,68 +244,4 @@ pub fn xor_under(words: &[u64; 64], mask: u64) -> u64
         left &= left - 1;
     }
     all
-}
-
-#[cfg(test)]
-mod tests {
-    use super::*;
-    use std::test::Fail;
-
-    #[test]
-    fn a_value_in_words(rt: HostRuntime) -> Result<(), Fail> {
-        let longest = [0xff; 40];
-        let cases: [(&[u8], [u64; 5]); 4] = [
-            (b"abc", [0x6162_6300_0000_0000, 0, 0, 0, 0]),
-            (b"`bc", [0x6062_6300_0000_0000, 0, 0, 0, 0]),
-            (
-                b"123456789",
-                [0x3132_3334_3536_3738, 0x3900_0000_0000_0000, 0, 0, 0],
-            ),
-            (&longest, [u64::MAX; 5]),
-        ];
-        for (bytes, words) in cases {
-            let value = Value::from_bytes(bytes).ok_or("no value")?;
-            assert_eq!(rt; value.bytes(), bytes);
-            assert_eq!(rt; pack(&value), words);
-            assert_eq!(rt; unpack(bytes.len() as u64, &words), Some(value));
-        }
-        Ok(())
-    }
-
-    #[test]
-    fn lengths_of_values(rt: HostRuntime) -> Result<(), Fail> {
-        let bytes = [7; 41];
-        assert_eq!(rt; Value::from_bytes(&[]), None);
-        assert_eq!(rt; Value::from_bytes(&bytes), None);
-        for length in [0, 41, 1 << 40] {
-            assert_eq!(rt; unpack(length, &[7; 5]), None, "at {length}");
-        }
-        Ok(())
-    }
-
-    #[test]
-    fn values_in_order(rt: HostRuntime) -> Result<(), Fail> {
-        let ascending: [&[u8]; 5] = [b"\0", b"\0\0", b"a", b"ab", b"b"];
-        for (i, lesser) in ascending.iter().enumerate() {
-            for (j, greater) in ascending.iter().enumerate() {
-                let lesser = Value::from_bytes(lesser).ok_or("no value")?;
-                let greater = Value::from_bytes(greater).ok_or("no value")?;
-                assert_eq!(rt; lesser.cmp(&greater), i.cmp(&j));
-                assert_eq!(rt; lesser == greater, i == j);
-            }
-        }
-        Ok(())
-    }
-
-    #[test]
-    fn exclusive_ors(rt: HostRuntime) {
-        let mut words = [0; 64];
-        words[0] = 1;
-        words[5] = 6;
-        words[63] = u64::MAX;
-        assert_eq!(rt; parity(&words), u64::MAX ^ 7);
-        assert_eq!(rt; xor_under(&words, bit(0) | bit(5)), 7);
-        assert_eq!(rt; xor_under(&words, u64::MAX), u64::MAX ^ 7);
-        assert_eq!(rt; xor_under(&words, 0), 0);
-    }
 }

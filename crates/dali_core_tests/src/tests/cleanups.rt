@@ -55,10 +55,7 @@ fn not_claimed(alloc: Global) -> Option<(Begun, Option<NotDead>, Option<NotDead>
 #[test]
 fn who_is_not_dead_is_not_claimed(rt: HostRuntime) -> Result<()> {
     let seen = not_claimed(rt.alloc()).context("no system")?;
-    assert_eq!(rt;
-        seen,
-        (Ok((5, Receipt { number: 3 })), Some(NotDead), Some(NotDead))
-    );
+    assert!(rt; seen == (Ok((5, Receipt { number: 3 })), Some(NotDead), Some(NotDead)));
     Ok(())
 }
 
@@ -111,16 +108,16 @@ fn dead_in_put(
 #[test]
 fn the_operation_of_a_dead_client_comes_first(rt: HostRuntime) {
     let cause = Cause::Store;
-    assert_eq!(rt;
-        dead_in_put(rt.alloc()),
-        Some((
-            (Ok((5, Receipt { number: 3 })), Some(1)),
-            (Want::Region { region: 1 }, true, 0, Want::Done),
-            (
-                Some(Err(SystemError::Stopped { cause })),
-                Some(State::Dead { latched: None })
-            )
-        ))
+    assert!(rt;
+        dead_in_put(rt.alloc())
+            == Some((
+                (Ok((5, Receipt { number: 3 })), Some(1)),
+                (Want::Region { region: 1 }, true, 0, Want::Done),
+                (
+                    Some(Err(SystemError::Stopped { cause })),
+                    Some(State::Dead { latched: None })
+                )
+            ))
     );
 }
 
@@ -186,18 +183,18 @@ fn cleaned_up(
 
 #[test]
 fn a_put_is_cleaned_up(rt: HostRuntime) {
-    assert_eq!(rt;
-        cleaned_up(rt.alloc()),
-        Some((
-            (
-                Ok((5, Receipt { number: 3 })),
-                Some(Ok(Receipt { number: 4 }))
-            ),
-            true,
-            Some(Ok(Receipt { number: 5 })),
-            (0, (Some(Ok(Receipt { number: 6 })), None)),
-            Some(true)
-        ))
+    assert!(rt;
+        cleaned_up(rt.alloc())
+            == Some((
+                (
+                    Ok((5, Receipt { number: 3 })),
+                    Some(Ok(Receipt { number: 4 }))
+                ),
+                true,
+                Some(Ok(Receipt { number: 5 })),
+                (0, (Some(Ok(Receipt { number: 6 })), None)),
+                Some(true)
+            ))
     );
 }
 
@@ -233,14 +230,14 @@ fn refused(
 #[test]
 fn a_refused_commit_gives_the_claim_back(rt: HostRuntime) {
     let cause = Cause::Store;
-    assert_eq!(rt;
-        refused(rt.alloc()),
-        Some((
-            true,
-            true,
-            Want::Region { region: 1 },
-            Some(Err(SystemError::Stopped { cause })),
-            (1, None, Want::Nothing, Some(State::Dead { latched: None }))
-        ))
+    assert!(rt;
+        refused(rt.alloc())
+            == Some((
+                true,
+                true,
+                Want::Region { region: 1 },
+                Some(Err(SystemError::Stopped { cause })),
+                (1, None, Want::Nothing, Some(State::Dead { latched: None }))
+            ))
     );
 }

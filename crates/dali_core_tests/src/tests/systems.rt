@@ -1,14 +1,14 @@
 //! A system by itself: begins and locks, limits and stops, batches, operations, and what takes them back or frees them.
 ghost use Rattle.std.specs.Prelude.{◌≤◌};
 
-use super::operations::{Begun, Noted, die, finish, formatted, perform, put, put_in};
+use super::operations::{Begun, Noted, die};
 use anyhow::{Context, Result};
 use dali_att::State;
-use dali_core::{NotDead, Operation, System, SystemError, TakeBack, Want};
+use dali_core::{NotDead, System, SystemError};
 use dali_geometry::Geometry;
 use dali_locks::{LockAnswer, Mode};
-use dali_record::{Answer, Call, Op, Pending, Record, Undo};
-use dali_region::{Receipt, Region};
+use dali_record::{Answer, Call};
+use dali_region::Receipt;
 use dali_system::{Cause, Refusal};
 use std::alloc::Global;
 use std::test::*;
@@ -76,15 +76,14 @@ fn two_clients_and_one_key(rt: HostRuntime) -> Result<()> {
     let first = [2, 0, 0, 0, 0, 0, 0, 0, 5, 2, 0, 0, 0, 0, 0, 0, 0, 6];
     let last = [5, 0, 0, 0, 0, 0, 0, 0, 5, 6, 0, 0, 0, 0, 0, 0, 0, 5];
     let logged = system.logged();
-    assert_eq!(rt;
+    assert!(rt;
         (
             seen,
             system.refusals(),
             logged.starts_with(first.as_slice()),
             logged.ends_with(last.as_slice()),
             (system.records(), system.next(), system.end())
-        ),
-        (
+        ) == (
             (
                 (
                     Ok((5, Receipt { number: 3 })),
@@ -158,22 +157,22 @@ fn a_limit_and_a_stop(rt: HostRuntime) -> Result<()> {
     let stopped = SystemError::Stopped {
         cause: Cause::Store,
     };
-    assert_eq!(rt;
-        (limited, refused),
-        (
-            (
-                (Ok((5, Receipt { number: 3 })), Err(full)),
-                Err(full),
-                (4, 6, 109),
-                (Some(Ok(Receipt { number: 4 })), 118, None)
-            ),
-            (
-                (Err(stopped), Some(Cause::Store)),
-                Err(stopped),
-                (Some(Err(stopped)), Err(stopped)),
-                (Some(stopped), 5)
+    assert!(rt;
+        (limited, refused)
+            == (
+                (
+                    (Ok((5, Receipt { number: 3 })), Err(full)),
+                    Err(full),
+                    (4, 6, 109),
+                    (Some(Ok(Receipt { number: 4 })), 118, None)
+                ),
+                (
+                    (Err(stopped), Some(Cause::Store)),
+                    Err(stopped),
+                    (Some(Err(stopped)), Err(stopped)),
+                    (Some(stopped), 5)
+                )
             )
-        )
     );
     Ok(())
 }
@@ -204,21 +203,21 @@ fn copies(system: &mut System) -> (bool, bool, bool) {
 #[test]
 fn a_client_dies(rt: HostRuntime) -> Result<()> {
     let mut system = system_to(rt.alloc(), 1000).context("no system")?;
-    assert_eq!(rt;
-        (claims(&mut system), copies(&mut system)),
-        (
-            (
-                (Ok((5, Receipt { number: 3 })), Err(NotDead)),
-                (true, Some(State::Dead { latched: Some(1) })),
+    assert!(rt;
+        (claims(&mut system), copies(&mut system))
+            == (
                 (
-                    Ok(Some(1)),
-                    Err(NotDead),
-                    Some(State::Cleaning { latched: Some(1) })
+                    (Ok((5, Receipt { number: 3 })), Err(NotDead)),
+                    (true, Some(State::Dead { latched: Some(1) })),
+                    (
+                        Ok(Some(1)),
+                        Err(NotDead),
+                        Some(State::Cleaning { latched: Some(1) })
+                    ),
+                    Err(NotDead)
                 ),
-                Err(NotDead)
-            ),
-            (true, false, true)
-        )
+                (true, false, true)
+            )
     );
     Ok(())
 }
@@ -243,226 +242,13 @@ fn batches(alloc: Global) -> Option<((u64, usize), (usize, bool), (Begun, usize)
 // 10,000 records of 9 bytes, which are more than 64 KiB, taken as one batch and then as another
 #[test]
 fn many_records_in_a_batch(rt: HostRuntime) {
-    assert_eq!(rt;
-        batches(rt.alloc()),
-        Some((
-            (90_100, 90_000),
-            (90_000, true),
-            (Ok((10_005, Receipt { number: 10_003 })), 9),
-            (true, 90_009)
-        ))
-    );
-}
-
-// A put of three bytes under the key 7 into the first cell of a formatted heap region: its transaction and region, the
-// word of the cell's state before, and how many words are written.
-fn written(region: &mut Region) -> Option<(u64, u32, u64, Option<u32>)> {
-    let Some(op) = put() else { return None };
-    let Ok(mut operation) = Operation::start(region, 1, 5, 7, op, true) else {
-        return None;
-    };
-    let (txn, number) = (operation.txn(), operation.block().region);
-    let before = region.words()[8];
-    Some((txn, number, before, finish(&mut operation, region)))
-}
-
-#[test]
-fn an_operation_writes_its_words(rt: HostRuntime) -> Result<()> {
-    let mut region = formatted().context("no region")?;
-    // state, key, length and five words of the value
-    let words = [1, 7, 3, 0x6162630000000000, 0, 0, 0, 0];
-    assert_eq!(rt;
-        (written(&mut region), &region.words()[8..16]),
-        (Some((5, 1, 0, Some(8))), words.as_slice())
-    );
-    Ok(())
-}
-
-// Frees the first cell behind the commit of a transaction.
-fn free(
-    system: &mut System,
-    region: &mut Region,
-    parent: u64,
-) -> Option<Result<Receipt, SystemError>> {
-    let op = Op::FreeCell { cell: 1 };
-    let Ok(mut operation) = Operation::start(region, 1, parent, 7, op, true) else {
-        return None;
-    };
-    let Some(_) = finish(&mut operation, region) else {
-        return None;
-    };
-    match operation.block().op {
-        Op::FreeCell { .. } => Some(system.solo_op(region, parent, operation.block())),
-        _ => None,
-    }
-}
-
-// Takes the last undo of a transaction back, and answers its receipt and what is wanted then.
-fn take_back(
-    system: &mut System,
-    region: &mut Region,
-    txn: u64,
-) -> Option<(Result<Receipt, SystemError>, Want)> {
-    let mut back = TakeBack::new(system, txn, 0);
-    let Want::Region { .. } = back.wants() else {
-        return None;
-    };
-    let Ok(()) = back.latch(region, true) else {
-        return None;
-    };
-    let _ = back.update(region);
-    if back.update(region) {
-        return None;
-    }
-    let receipt = back.commit(region, system);
-    Some((receipt, back.wants()))
-}
-
-// A put is taken back, and its transaction ends.
-fn put_and_taken_back(
-    alloc: Global,
-) -> Option<
-    (
-        Begun,
-        (Option<Noted>, u64),
-        (Option<(Noted, Want)>, u64, Option<Pending>),
-        Noted,
-    ),
-> {
-    let mut region = formatted()?;
-    let mut system = system_to(alloc, 1000)?;
-    let begun = system.begin();
-    let put = (put_in(&mut system, &mut region, 5), region.words()[8]);
-    let back = (
-        take_back(&mut system, &mut region, 5),
-        region.words()[8],
-        system.last_undo(5),
-    );
-    Some((begun, put, back, system.ended(5)))
-}
-
-#[test]
-fn a_put_is_taken_back(rt: HostRuntime) {
-    assert_eq!(rt;
-        put_and_taken_back(rt.alloc()),
-        Some((
-            Ok((5, Receipt { number: 3 })),
-            (Some(Ok(Receipt { number: 4 })), 1),
-            (Some((Ok(Receipt { number: 5 }), Want::Nothing)), 0, None),
-            Ok(Receipt { number: 6 })
-        ))
-    );
-}
-
-// A put and a removal; how much is to be freed, and what first.
-fn removed(
-    alloc: Global,
-    system: &mut System,
-    region: &mut Region,
-) -> Option<
-    (
-        Begun,
-        Option<Noted>,
-        Option<Noted>,
-        (usize, Option<Pending>),
-    ),
-> {
-    let begun = system.begin();
-    let put = put_in(system, region, 5);
-    let kill = perform(system, region, 5, Op::KillCell { cell: 1 });
-    let Ok(removals) = system.ready(alloc, 5) else {
-        return None;
-    };
-    let ready = (removals.len(), removals.first().copied());
-    Some((begun, put, kill, ready))
-}
-
-// It is freed behind the commit: the word of the cell's state then, the next number, and the end.
-fn freed(
-    system: &mut System,
-    region: &mut Region,
-) -> (Option<Noted>, Option<Noted>, (u64, u64), Noted) {
-    let committed = commit(system, 5);
-    let freed = free(system, region, 5);
-    let left = (region.words()[8], system.next());
-    (committed, freed, left, system.ended(5))
-}
-
-// Both, over a new system and a formatted region.
-fn removed_and_freed(
-    alloc: Global,
-) -> Option<
-    (
-        (
-            Begun,
-            Option<Noted>,
-            Option<Noted>,
-            (usize, Option<Pending>),
-        ),
-        (Option<Noted>, Option<Noted>, (u64, u64), Noted),
-    ),
-> {
-    let mut region = formatted()?;
-    let mut system = system_to(alloc, 2000)?;
-    let first = removed(alloc, &mut system, &mut region)?;
-    Some((first, freed(&mut system, &mut region)))
-}
-
-#[test]
-fn a_removal_is_freed_behind_its_commit(rt: HostRuntime) {
-    let removal = Pending {
-        key: 7,
-        region: 1,
-        undo: Undo::ReviveCell { cell: 1 },
-    };
-    // the cell is free, and the solo had a number of its own
-    assert_eq!(rt;
-        removed_and_freed(rt.alloc()),
-        Some((
-            (
-                Ok((5, Receipt { number: 3 })),
-                Some(Ok(Receipt { number: 4 })),
-                Some(Ok(Receipt { number: 5 })),
-                (1, Some(removal))
-            ),
-            (
-                Some(Ok(Receipt { number: 6 })),
-                Some(Ok(Receipt { number: 7 })),
-                (0, 7),
-                Ok(Receipt { number: 8 })
-            )
-        ))
-    );
-}
-
-// The begin of an audit has a limit of 1 MiB more.
-fn audited(alloc: Global) -> Option<((Begun, Noted, Noted), u64, Option<Cause>)> {
-    let mut system = system_to(alloc, 100)?;
-    let clean = Record::AuditClean { begin: 3 };
-    let noted = (
-        system.begin(),
-        system.note(&Record::AuditBegin),
-        system.note(&clean),
-    );
-    Some((noted, system.end(), system.stopped()))
-}
-
-#[test]
-fn an_audit_is_noted(rt: HostRuntime) {
-    let full = SystemError::LogFull {
-        end: 100,
-        limit: 100,
-    };
-    assert_eq!(rt;
-        audited(rt.alloc()),
-        Some((
-            (
-                Err(full),
-                Ok(Receipt { number: 3 }),
-                Ok(Receipt { number: 4 })
-            ),
-            110,
-            None
-        ))
+    assert!(rt;
+        batches(rt.alloc())
+            == Some((
+                (90_100, 90_000),
+                (90_000, true),
+                (Ok((10_005, Receipt { number: 10_003 })), 9),
+                (true, 90_009)
+            ))
     );
 }

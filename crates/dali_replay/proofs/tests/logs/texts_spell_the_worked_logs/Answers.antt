@@ -1,7 +1,0 @@
-use Rattle.std.proofs.Common.{refl}
-use Rattle.dali_bytes.specs.Fields.{number32, number64}
-use Rattle.dali_replay.proofs.tests.logs.texts_spell_the_worked_logs.Goals as goal
-
-pub returns : goal.returns
-unfolding number32 number64
-returns c = record { chain = refl; undone_change = refl; damaged_writer = refl; abort = refl; restarted = refl }

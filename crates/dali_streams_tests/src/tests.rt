@@ -1,0 +1,3 @@
+//! What no clause says of what the program reads, writes and stores by.
+mod stores;
+mod streams;
