@@ -1,1 +1,5 @@
+pub mod Access
+pub mod Failures
 pub mod Folder
+pub mod Guards
+pub mod Images

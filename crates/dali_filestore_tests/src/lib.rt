@@ -1,0 +1,5 @@
+//! Tests of `dali_filestore`.
+#![tactic(auto)]
+
+#[cfg(test)]
+mod tests;
