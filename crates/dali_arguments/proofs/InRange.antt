@@ -10,9 +10,9 @@ use Rattle.dali_script.specs.declared.faults.Kind.TheVariants.{Number}
 use Rattle.dali_script.proofs.Ranges.{key_fits, then_some}
 use Rattle.dali_arguments.specs.Command.{dali}
 use Rattle.dali_arguments.specs.Laws.{IsInRange}
-use Rattle.dali_arguments.specs.Meaning.{amount_in, faultless, flag_in, generation, kept_between, limit_in, meaning, number_between, run_of, task_of}
+use Rattle.dali_arguments.specs.Meaning.{amount_in, faultless, flag_in, generation, kept_between, limit_in, loading, meaning, number_between, run_of, task_of}
 use Rattle.dali_arguments.specs.declared.task.Task.{Task}
-use Rattle.dali_arguments.specs.declared.task.Task.TheVariants.{Run, Generate, Dump}
+use Rattle.dali_arguments.specs.declared.task.Task.TheVariants.{Run, Generate, Dump, Show, Status, Load}
 
 in_bounds : (least most n m : ℕ) (b : Bool) → (nat_lt n least || nat_lt most n) ≡ b → cond b None (Some n) ≡ Some m → (least ≤ m) × (m ≤ most)
 in_bounds least most n m true is e = absurd (cc)
@@ -54,14 +54,29 @@ generation_right rows task e =
       number_fits text.0 number.0 number.1,
     )
 
-named_right : (rows : List Row) (task : Task) (a b d : Bool) → cond a (run_of rows) (cond b (generation rows) (cond d (Some Dump) None)) ≡ Some task → IsInRange task
-named_right rows task true b d e = run_right rows task e
-named_right rows task false true d e = generation_right rows task e
-named_right rows task false false true e = let same : Dump ≡ task = cc in subst IsInRange same tt
-named_right rows task false false false e = absurd (cc)
+loading_right : (rows : List Row) (task : Task) → loading rows ≡ Some task → IsInRange task
+loading_right rows task e =
+    let index = then_some (amount_in (codes "index") 32768 rows) _ task e in
+    let heap = then_some (amount_in (codes "heap") 65536 rows) _ task index.2 in
+    let same : Load index.0 heap.0 ≡ task = cc in
+    subst IsInRange same (
+      amount_right (first_of (codes "index") rows) 32768 index.0 index.1,
+      amount_right (first_of (codes "heap") rows) 65536 heap.0 heap.1,
+    )
+
+named_right : (rows : List Row) (task : Task) (a b d f g h : Bool)
+    → cond a (run_of rows) (cond b (generation rows) (cond d (Some Dump) (cond f (Some Show) (cond g (Some Status) (cond h (loading rows) None))))) ≡ Some task → IsInRange task
+named_right rows task true b d f g h e = run_right rows task e
+named_right rows task false true d f g h e = generation_right rows task e
+named_right rows task false false true f g h e = let same : Dump ≡ task = cc in subst IsInRange same tt
+named_right rows task false false false true g h e = let same : Show ≡ task = cc in subst IsInRange same tt
+named_right rows task false false false false true h e = let same : Status ≡ task = cc in subst IsInRange same tt
+named_right rows task false false false false false true e = loading_right rows task e
+named_right rows task false false false false false false e = absurd (cc)
 
 task_right : (chosen : Option (Text × List Row)) (task : Task) → task_of chosen ≡ Some task → IsInRange task
-task_right (Some c) task e = named_right c.1 task (bytes_eq c.0 (codes "run")) (bytes_eq c.0 (codes "gen")) (bytes_eq c.0 (codes "dump")) e
+task_right (Some c) task e = named_right c.1 task (bytes_eq c.0 (codes "run")) (bytes_eq c.0 (codes "gen")) (bytes_eq c.0 (codes "dump")) (bytes_eq c.0 (codes "show"))
+    (bytes_eq c.0 (codes "status")) (bytes_eq c.0 (codes "load")) e
 task_right None task e = absurd (cc)
 
 faultless_right : (kinds : Kinds) (chosen : Option (Text × List Row)) (task : Task) → faultless kinds (task_of chosen) ≡ Some task → IsInRange task

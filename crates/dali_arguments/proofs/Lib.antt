@@ -2,3 +2,4 @@ pub mod InRange
 pub mod Answered
 pub mod Built
 pub mod Getters
+mod Asked

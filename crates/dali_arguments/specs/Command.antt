@@ -1,7 +1,7 @@
 -- The command line of dali, as what clap reads of a command.
---     run, generate, dump    its subcommands
---     dali                   the whole: one of them is wanted, and none of clap's helps is there
---     IsPart shape c         c is the command of this shape, with no subcommand of its own
+--     run, generate, dump, show, status, load    its subcommands
+--     dali                                       the whole: one of them is wanted, and none of clap's helps is there
+--     IsPart shape c                             c is the command of this shape, with no subcommand of its own
 use Rattle.std.specs.Prelude.{◌≡◌, true, false, [], ◌∷◌, Some, codes}
 use Rattle.clap.specs.Words.{App, Rule, Shape, Text, app_of, new_rule}
 use Rattle.clap.specs.Simple.{new_shape}
@@ -30,6 +30,15 @@ generate = record (new_shape (codes "gen")) { rules = wanted (codes "clients") �
 abbrev pub dump : Shape
 dump = new_shape (codes "dump")
 
+abbrev pub show : Shape
+show = new_shape (codes "show")
+
+abbrev pub status : Shape
+status = new_shape (codes "status")
+
+abbrev pub load : Shape
+load = record (new_shape (codes "load")) { rules = wanted (codes "index") ∷ wanted (codes "heap") ∷ [] }
+
 abbrev pub dali : App
 dali = record {
   top = record (new_shape (codes "dali")) {
@@ -39,7 +48,7 @@ dali = record {
     disable_help_subcommand = true;
     subcommand_required = true;
   };
-  subs = run ∷ generate ∷ dump ∷ [];
+  subs = run ∷ generate ∷ dump ∷ show ∷ status ∷ load ∷ [];
 }
 
 abbrev pub alone : Shape → App

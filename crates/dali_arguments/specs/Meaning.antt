@@ -9,7 +9,7 @@ use Rattle.clap.specs.Words.{Kinds, Row, Text, fault_of, first_of, subcommand_of
 use Rattle.dali_script.specs.Texts.{◌>>=◌, number_of}
 use Rattle.dali_arguments.specs.Command.{dali}
 use Rattle.dali_arguments.specs.declared.task.Task.{Task}
-use Rattle.dali_arguments.specs.declared.task.Task.TheVariants.{Run, Generate, Dump}
+use Rattle.dali_arguments.specs.declared.task.Task.TheVariants.{Run, Generate, Dump, Show, Status, Load}
 
 abbrev pub usage : Text
 usage = codes "usage: dali run [--precheck] [--log-limit N] | gen CLIENTS SIZE NUMBER | dump"
@@ -39,10 +39,15 @@ abbrev pub generation : List Row → Option Task
 generation rows = amount_in (codes "clients") 64 rows >>= λ clients. amount_in (codes "size") 1000 rows >>= λ size.
     first_of (codes "number") rows >>= λ text. number_of text >>= λ number. Some (Generate clients size number)
 
+-- ---- load
+abbrev pub loading : List Row → Option Task
+loading rows = amount_in (codes "index") 32768 rows >>= λ index. amount_in (codes "heap") 65536 rows >>= λ heap. Some (Load index heap)
+
 -- ---- the whole
 abbrev pub task_named : Text → List Row → Option Task
 task_named name rows = if bytes_eq name (codes "run") then run_of rows else (if bytes_eq name (codes "gen") then generation rows
-    else (if bytes_eq name (codes "dump") then Some Dump else None))
+    else (if bytes_eq name (codes "dump") then Some Dump else (if bytes_eq name (codes "show") then Some Show
+    else (if bytes_eq name (codes "status") then Some Status else (if bytes_eq name (codes "load") then loading rows else None)))))
 
 abbrev pub task_of : Option (Text × List Row) → Option Task
 task_of chosen = chosen >>= λ c. task_named c.0 c.1

@@ -1,7 +1,7 @@
 //! The command line's form.
 ghost use Rattle.std.specs.Prelude.{◌≡◌, IfOk};
 ghost use Rattle.clap.specs.Words.{app_of};
-ghost use Rattle.dali_arguments.specs.Command.{run as run_shape, generate as generate_shape, dump as dump_shape, dali, IsPart};
+ghost use Rattle.dali_arguments.specs.Command.{run as run_shape, generate as generate_shape, dump as dump_shape, load as load_shape, dali, IsPart};
 
 use clap::{Arg, ArgAction, Command};
 use std::alloc::{AllocError, Global};
@@ -30,6 +30,14 @@ fn generate<'a>(alloc: Global) -> Result<Command<'a>, AllocError>
         .arg(number)
 }
 
+fn load<'a>(alloc: Global) -> Result<Command<'a>, AllocError>
+    ensures { IfOk result (IsPart load_shape) }
+{
+    let index = Arg::new(alloc, "index").required(true);
+    let heap = Arg::new(alloc, "heap").required(true);
+    Command::new(alloc, "load").arg(index)?.arg(heap)
+}
+
 /// The command line's form. AllocError where memory was wanted and refused.
 pub fn command<'a>(alloc: Global) -> Result<Command<'a>, AllocError>
     ensures { IfOk result (λ c. app_of c ≡ dali) }
@@ -41,5 +49,8 @@ pub fn command<'a>(alloc: Global) -> Result<Command<'a>, AllocError>
         .subcommand_required(true)
         .subcommand(run(alloc)?)?
         .subcommand(generate(alloc)?)?
-        .subcommand(Command::new(alloc, "dump"))
+        .subcommand(Command::new(alloc, "dump"))?
+        .subcommand(Command::new(alloc, "show"))?
+        .subcommand(Command::new(alloc, "status"))?
+        .subcommand(load(alloc)?)
 }

@@ -1,9 +1,11 @@
 //! What holds of the meaning itself.
-ghost use Rattle.std.specs.Prelude.{◌≡◌, Some, List};
+ghost use Rattle.std.specs.Prelude.{◌≡◌, Some, None, List};
 ghost use Rattle.clap.specs.Words.{Text};
 ghost use Rattle.dali_arguments.specs.declared.task.Task.{Task};
 ghost use Rattle.dali_arguments.specs.Meaning.{meaning, usage};
 ghost use Rattle.dali_arguments.specs.Laws.{IsInRange};
+ghost use Rattle.dali_arguments.specs.Questions.{question_in};
+ghost use Rattle.dali_arguments.specs.declared.help.Question.{Question};
 
 use crate::USAGE;
 
@@ -15,4 +17,9 @@ pub fn meanings_are_in_range()
 /// The text that is printed where words mean no task.
 pub fn usage_is_told()
     ensures { USAGE.now ≡ usage }
+{}
+
+/// Words that ask of the program itself mean no task.
+pub fn questions_mean_no_task()
+    ensures { (words : List Text) (question : Question) → question_in words ≡ Some question → meaning words ≡ None }
 {}

@@ -1,7 +1,7 @@
 //! What words ask for.
 ghost use Rattle.std.specs.Prelude.{◌≡◌, None, Some, IfErr, IfOk, map, option_map, string_bytes};
 ghost use Rattle.clap.specs.Words.{found_of, rows_of, subcommand_rows_of};
-ghost use Rattle.dali_arguments.specs.Meaning.{amount_in, flag_in, generation, limit_in, meaning, number_between, run_of, task_of};
+ghost use Rattle.dali_arguments.specs.Meaning.{amount_in, flag_in, generation, limit_in, loading, meaning, number_between, run_of, task_of};
 ghost use Rattle.dali_arguments.specs.declared.error.ArgumentError.TheVariants.{Faulty};
 
 use crate::form::command;
@@ -23,6 +23,10 @@ const MOST_LIMIT: u64 = 268_435_456;
 const MOST_CLIENTS: u32 = 64;
 
 const MOST_SIZE: u32 = 1_000;
+
+const MOST_INDEX: u32 = 32_768;
+
+const MOST_HEAP: u32 = 65_536;
 
 fn between(text: &str, least: u64, most: u64) -> Option<u64>
     ensures { result ≡ number_between least most text.now }
@@ -79,6 +83,15 @@ fn generate<'a>(matches: &ArgMatches<'a>) -> Option<Task>
     })
 }
 
+fn load<'a>(matches: &ArgMatches<'a>) -> Option<Task>
+    ensures { result ≡ loading (rows_of (found_of matches.now)) }
+{
+    Some(Task::Load {
+        index: amount(matches, "index", MOST_INDEX)?,
+        heap: amount(matches, "heap", MOST_HEAP)?,
+    })
+}
+
 // None where no subcommand was given.
 fn task<'a>(matches: &ArgMatches<'a>) -> Option<Task>
     ensures { result ≡ task_of (subcommand_rows_of matches.now) }
@@ -88,6 +101,9 @@ fn task<'a>(matches: &ArgMatches<'a>) -> Option<Task>
         "run" => run(matches),
         "gen" => generate(matches),
         "dump" => Some(Task::Dump),
+        "show" => Some(Task::Show),
+        "status" => Some(Task::Status),
+        "load" => load(matches),
         _ => None,
     }
 }

@@ -6,9 +6,7 @@ use dali_program::program;
 use std::process::ExitCode;
 
 fn main(rt: HostRuntime) -> ExitCode {
-    let store = FileStore::in_folder(&rt, ".");
-    program(&rt, rt.stderr(), store)
+    let writing = FileStore::in_folder(&rt, ".");
+    let reading = FileStore::reading_folder(&rt, ".");
+    program(&rt, rt.stderr(), writing, reading)
 }
-
-#[cfg(test)]
-mod tests;

@@ -3,10 +3,7 @@
 
 mod body;
 mod edge;
-mod progress;
+mod ends;
 
 pub use body::run_with;
 pub use edge::program;
-
-#[cfg(test)]
-mod tests;

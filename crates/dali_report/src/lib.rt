@@ -36,6 +36,3 @@ mod said;
 pub use leaves::{put_text, put_with_hex, put_with_number, put_with_numbers, put_with_regions};
 pub use lines::{client_line, line, said_line};
 pub use printed::Line;
-
-#[cfg(test)]
-mod tests;

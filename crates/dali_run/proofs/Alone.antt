@@ -7,7 +7,7 @@ use Rattle.dali_script.specs.declared.commands.Command.TheVariants.{Open, Restar
 use Rattle.dali_store.specs.declared.store.Store.{Ghosts}
 use Rattle.dali_transcripts.specs.Words.{Pokes, Audits, Checkpoints}
 use Rattle.dali_run.specs.declared.halt.Halt.{Halt}
-use Rattle.dali_run.specs.declared.halt.Halt.TheVariants.{BadWords, BadScript, TooLong, ReadFault, WriteFault, StoreFault, BadStore, Unformatted, Formatted, LogFull, OutOfMemory}
+use Rattle.dali_run.specs.declared.halt.Halt.TheVariants.{BadWords, BadScript, TooLong, ReadFault, WriteFault, StoreFault, BadStore, Unformatted, Formatted, LogFull, TooSmall, NotLoaded, OutOfMemory}
 use Rattle.dali_run.specs.declared.program.Program.{Program}
 use Rattle.dali_run.specs.declared.program.Program.TheVariants.{Up, Down}
 use Rattle.dali_run.specs.Fails.{AloneEndsIn, Breaks, Fails}
@@ -30,6 +30,8 @@ module _ {V : Type 0} (g : Ghosts V) (precheck : Bool) where
   poke_ends Unformatted region word mask (Up core) f e = absurd e
   poke_ends Formatted region word mask (Up core) f e = absurd e
   poke_ends (LogFull end most) region word mask (Up core) f e = absurd e
+  poke_ends TooSmall region word mask (Up core) f e = absurd e
+  poke_ends NotLoaded region word mask (Up core) f e = absurd e
 
   pub audit_ends : (halt : Halt) (p : Program V) (f : Fuse V) → AloneEndsIn g precheck halt Audits p f → Fails g precheck halt Audit p f
   audit_ends halt (Down store) f e = subst (λ (h : Halt). FailsSo h Audit (Down store) f) (sym e.0) e.1
@@ -44,6 +46,8 @@ module _ {V : Type 0} (g : Ghosts V) (precheck : Bool) where
   audit_ends Unformatted (Up core) f e = absurd e
   audit_ends Formatted (Up core) f e = absurd e
   audit_ends (LogFull end most) (Up core) f e = absurd e
+  audit_ends TooSmall (Up core) f e = absurd e
+  audit_ends NotLoaded (Up core) f e = absurd e
 
   pub checkpoint_ends : (halt : Halt) (p : Program V) (f : Fuse V) → AloneEndsIn g precheck halt Checkpoints p f
       → Fails g precheck halt Checkpoint p f
@@ -59,6 +63,8 @@ module _ {V : Type 0} (g : Ghosts V) (precheck : Bool) where
   checkpoint_ends Unformatted (Up core) f e = absurd e
   checkpoint_ends Formatted (Up core) f e = absurd e
   checkpoint_ends (LogFull end most) (Up core) f e = absurd e
+  checkpoint_ends TooSmall (Up core) f e = absurd e
+  checkpoint_ends NotLoaded (Up core) f e = absurd e
 
   -- whatever a result holds
   pub ends : {T : Type 0} (P Q : Halt → Type 0) (r : Result T Halt) → ((halt : Halt) → P halt → Q halt) → IfErr r P → IfErr r Q
@@ -83,3 +89,5 @@ module _ {V : Type 0} (g : Ghosts V) (precheck : Bool) where
   open_fails Unformatted p f e = e
   open_fails Formatted p f e = absurd e.0
   open_fails (LogFull end most) p f e = absurd e
+  open_fails TooSmall p f e = absurd e
+  open_fails NotLoaded p f e = absurd e

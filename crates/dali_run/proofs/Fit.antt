@@ -93,7 +93,7 @@ fit (single.Round blocks) right = right_blocks blocks right
 fit (single.Poke r w m) right = right_poke r w m right
 fit _ right = tt
 
-fits : (script : List Command) → AllByRecursion IsRightCommand script → AreFit script
+pub fits : (script : List Command) → AllByRecursion IsRightCommand script → AreFit script
 fits [] right = tt
 fits (command ∷ script) right = (fit command right.0, fits script right.1)
 

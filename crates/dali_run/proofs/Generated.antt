@@ -23,7 +23,7 @@ use Rattle.dali_transcripts.specs.Words.{Said, Refused, StoppedBy}
 use Rattle.dali_whole.specs.Cores.{IsNoShorter}
 use Rattle.dali_whole.specs.declared.whole.Core.{Core}
 use Rattle.dali_run.specs.declared.halt.Halt.{Halt}
-use Rattle.dali_run.specs.declared.halt.Halt.TheVariants.{BadWords, BadScript, TooLong, ReadFault, WriteFault, StoreFault, BadStore, Unformatted, Formatted, LogFull, OutOfMemory}
+use Rattle.dali_run.specs.declared.halt.Halt.TheVariants.{BadWords, BadScript, TooLong, ReadFault, WriteFault, StoreFault, BadStore, Unformatted, Formatted, LogFull, TooSmall, NotLoaded, OutOfMemory}
 use Rattle.dali_run.specs.declared.program.Program.{Program}
 use Rattle.dali_run.specs.declared.program.Program.TheVariants.{Up, Down}
 use Rattle.dali_run.specs.Ends.{Course, EndedGenerator, Generates, course}
@@ -187,6 +187,8 @@ module _ {V : Type 0} (g : Ghosts V) (clients size number : ℕ) where
   ends_by (BadStore file at) start end by = by
   ends_by Unformatted start end by = by
   ends_by Formatted start end by = by
+  ends_by TooSmall start end by = by
+  ends_by NotLoaded start end by = by
 
   -- what the round left ended the run
   refused : (halt : Halt) (start end : V) (run : IsPlayed g 67108864 clients size number start (Some halt)) → MayEnd halt
@@ -202,6 +204,8 @@ module _ {V : Type 0} (g : Ghosts V) (clients size number : ℕ) where
   refused (BadStore file at) start end run may same = absurd may
   refused Unformatted start end run may same = absurd may
   refused Formatted start end run may same = absurd may
+  refused TooSmall start end run may same = absurd may
+  refused NotLoaded start end run may same = absurd may
 
   pub ends_in_round : (halt : Halt) (start end : V) (made : Core (Fuse V)) (blocks : List Told) → blocks ≡ map told_by (generated clients size number)
       → IsMade g 67108864 clients size start made → RoundStops g blocks made halt end → EndsSo halt start end
@@ -239,6 +243,8 @@ module _ {V : Type 0} (g : Ghosts V) (clients size number : ℕ) where
   EndsNoCommand TooLong = Unit {0}
   EndsNoCommand ReadFault = Unit {0}
   EndsNoCommand WriteFault = Unit {0}
+  EndsNoCommand TooSmall = Unit {0}
+  EndsNoCommand NotLoaded = Unit {0}
   EndsNoCommand _ = ⊥
 
   fails_never : (halt : Halt) (command : Command) (old : Program V) (end : V) → EndsNoCommand halt → FailsIn g halt command old end → ⊥
@@ -247,6 +253,8 @@ module _ {V : Type 0} (g : Ghosts V) (clients size number : ℕ) where
   fails_never TooLong command old end of f = f.fails
   fails_never ReadFault command old end of f = f.fails
   fails_never WriteFault command old end of f = f.fails
+  fails_never TooSmall command old end of f = f.fails
+  fails_never NotLoaded command old end of f = f.fails
   fails_never _ command old end of f = of
 
   never : (halt : Halt) → EndsNoCommand halt → (start end : V) → EndsIn halt start end → ⊥
@@ -268,6 +276,8 @@ module _ {V : Type 0} (g : Ghosts V) (clients size number : ℕ) where
   halts_so k Formatted start end sink ends = (ends, refl)
   halts_so k (LogFull place most) start end sink ends = (ends, refl)
   halts_so k OutOfMemory start end sink ends = (ends, refl)
+  halts_so k TooSmall start end sink ends = (ends, refl)
+  halts_so k NotLoaded start end sink ends = (ends, refl)
 
   module _ {S K : Type 0} (s : SourceGhosts S) (k : SinkGhosts K) (source : S) (sink sink' : K) (start end : V) where
     abbrev ran : Course V
@@ -288,6 +298,8 @@ module _ {V : Type 0} (g : Ghosts V) (clients size number : ℕ) where
     halted (BadScript line kind) h = absurd (never (BadScript line kind) tt start end h.0)
     halted TooLong h = absurd (never TooLong tt start end h.0)
     halted ReadFault h = absurd (never ReadFault tt start end h.0)
+    halted TooSmall h = absurd (never TooSmall tt start end h.0)
+    halted NotLoaded h = absurd (never NotLoaded tt start end h.0)
 
     pub generator_ended : (r : Result (Unit {0}) Halt)
         → OnOk r ((text : List ℕ) × Generates g clients size number start text end × Appends (k.taken sink) text (k.taken sink')) → IfErr r Halted

@@ -6,12 +6,11 @@ use Rattle.std.proofs.lemmas.Bool.{or_parts}
 use Rattle.dali_arguments.specs.Laws.{IsInRange}
 use Rattle.dali_arguments.specs.Meaning.{meaning}
 use Rattle.dali_arguments.specs.declared.task.Task.{Task}
-use Rattle.dali_arguments.specs.declared.task.Task.TheVariants.{Run, Generate, Dump}
+use Rattle.dali_arguments.specs.declared.task.Task.TheVariants.{Run, Generate, Dump, Show, Status as Standing, Load}
 use Rattle.dali_arguments.proofs.InRange.{in_range}
 use Rattle.dali_clients.specs.Said.{Transcribed}
 use Rattle.dali_generator.specs.Generated.{AreWithin, block, draw, generated, index_regions, heap_regions, key_of, transaction, value_of}
 use Rattle.dali_generator.proofs.Right.{right_round, right_sizes}
-use Rattle.dali_geometry.specs.Places.{regions}
 use Rattle.dali_memstore.specs.Fuse.{inner}
 use Rattle.dali_memstore.specs.declared.fuse.Fuse.{Fuse}
 use Rattle.dali_record.specs.declared.records.Record.{Record}
@@ -33,7 +32,7 @@ use Rattle.dali_run.specs.declared.halt.Halt.TheVariants as halts
 use Rattle.dali_run.specs.declared.program.Program.{Program}
 use Rattle.dali_run.specs.declared.program.Program.TheVariants.{Up, Down}
 use Rattle.dali_run.specs.declared.status.Status.{Status}
-use Rattle.dali_run.specs.declared.status.Status.TheVariants.{Done, BadWords, BadScript, TooLong, ReadFault, WriteFault, StoreFault, BadStore, Unformatted, Formatted, OutOfMemory, LogFull}
+use Rattle.dali_run.specs.declared.status.Status.TheVariants.{Done, BadWords, BadScript, TooLong, ReadFault, WriteFault, StoreFault, BadStore, Unformatted, Formatted, OutOfMemory, LogFull, TooSmall, NotLoaded}
 use Rattle.dali_run.specs.Ends.{Course, Ended, EndedGenerator, EndedScript, GeneratorFails, GeneratorFinds, GeneratorLoses, GeneratorStops, GeneratorWants, HasStopped, Untouched}
 use Rattle.dali_run.specs.Fails.{AloneFails, Breaks, Fails, Lost, Played, StoreFailsIn}
 use Rattle.dali_run.specs.Generating.{IsCrashed, IsCutRound, IsMade, IsPlayed}
@@ -83,7 +82,7 @@ last_none : (front : List Command) (command : Command) → list_any pokes (front
 last_none [] command none = (or_parts (pokes command) false none).0
 last_none (c ∷ front) command none = last_none front command (or_parts (pokes c) (list_any pokes (front ++ command ∷ [])) none).1
 
-next_none : (script : List Command) (count : ℕ) (command : Command) → list_any pokes script ≡ false → take (count + 1) script ≡ take count script ++ command ∷ [] → pokes command ≡ false
+pub next_none : (script : List Command) (count : ℕ) (command : Command) → list_any pokes script ≡ false → take (count + 1) script ≡ take count script ++ command ∷ [] → pokes command ≡ false
 next_none script count command none next = last_none (take count script) command (subst (λ (l : List Command). list_any pokes l ≡ false) next (front_none (count + 1) script none))
 
 -- ---- generated blocks have none
@@ -205,7 +204,7 @@ module _ {V : Type 0} (g : Ghosts V)
     restarted_none Safe old text new (inl step) calm = none_read Safe old calm
     restarted_none Safe old text new (inr stops) calm = tt
 
-    left_none : (Safe : Disk → Type 0) (command : Command) (old : Program V) (text : List ℕ) (new : Program V)
+    pub left_none : (Safe : Disk → Type 0) (command : Command) (old : Program V) (text : List ℕ) (new : Program V)
         → (step : Steps g limit precheck old command text new) → Calm Safe old
         → NoneEscapesLeft g limit precheck Safe command old text new step
     left_none Safe (Size index heap) old text new step calm = none_read Safe old calm
@@ -228,7 +227,7 @@ module _ {V : Type 0} (g : Ghosts V)
     safe_behind Safe (Crash choice) old text new step calm c = tt
     safe_behind Safe _ old text new step calm c = calm.safe c
 
-    calm_step : (Safe : Disk → Type 0) (command : Command) → IsFit command → pokes command ≡ false → (old : Program V) (text : List ℕ) (new : Program V)
+    pub calm_step : (Safe : Disk → Type 0) (command : Command) → IsFit command → pokes command ≡ false → (old : Program V) (text : List ℕ) (new : Program V)
         → (step : Steps g limit precheck old command text new) → Calm Safe old
         → Calm (SafeBehind g limit precheck Safe command old text new step) new
     calm_step Safe command fit none old text new step calm =
@@ -316,6 +315,8 @@ module _ {V : Type 0} (g : Ghosts V)
     behind_honest Safe halts.ReadFault command fit none old f fails calm = absurd fails
     behind_honest Safe halts.WriteFault command fit none old f fails calm = absurd fails
     behind_honest Safe (halts.LogFull end most) command fit none old f fails calm = absurd fails
+    behind_honest Safe halts.TooSmall command fit none old f fails calm = absurd fails
+    behind_honest Safe halts.NotLoaded command fit none old f fails calm = absurd fails
 
     -- ---- within a round of a script without pokes
     step_honest : (Safe : Disk → Type 0) (command : Command) → IsFit command → pokes command ≡ false → (old : Program V) (text : List ℕ) (new : Program V)
@@ -379,11 +380,11 @@ module _ {V : Type 0} (g : Ghosts V)
     fail_honest Safe _ command fit none old f fails calm = tt
 
     -- ---- some commands
-    record Walked (Safe : Disk → Type 0) (commands : List Command) (old : Program V) (text : List ℕ) (new : Program V)
+    pub record Walked (Safe : Disk → Type 0) (commands : List Command) (old : Program V) (text : List ℕ) (new : Program V)
         (runs : RunsAll g limit precheck old commands text new) : Type 0 where
-      each : NoneEscape g limit precheck Safe commands old text new runs
-      within : StepsAreHonest g limit precheck commands old text new runs
-      calm : Calm (SafeAfter g limit precheck Safe commands old text new runs) new
+      pub each : NoneEscape g limit precheck Safe commands old text new runs
+      pub within : StepsAreHonest g limit precheck commands old text new runs
+      pub calm : Calm (SafeAfter g limit precheck Safe commands old text new runs) new
 
     walk : (Safe : Disk → Type 0) (commands : List Command) → AreFit commands → list_any pokes commands ≡ false → (old : Program V) (text : List ℕ) (new : Program V)
         → (runs : RunsAll g limit precheck old commands text new) → Calm Safe old → Walked Safe commands old text new runs
@@ -398,7 +399,7 @@ module _ {V : Type 0} (g : Ghosts V)
           calm = rest.calm;
         }
 
-    walked : (base : List Record) (start : V) (script : List Command) → AreFit script → list_any pokes script ≡ false → IsOwn g base start → (count : ℕ) (text : List ℕ) (new : Program V)
+    pub walked : (base : List Record) (start : V) (script : List Command) → AreFit script → list_any pokes script ≡ false → IsOwn g base start → (count : ℕ) (text : List ℕ) (new : Program V)
         → (run : HasRun g limit precheck start script count text new) → Walked AnyFiles (take count script) run.first text new run.runs
     walked base start script fit none own count text new run =
         walk AnyFiles (take count script) (fit_front count script fit) (front_none count script none) run.first text new run.runs (calm_down base run.first start run.down own)
@@ -479,6 +480,8 @@ module _ {V : Type 0} (g : Ghosts V)
       script_honest TooLong ended = ((tt, tt), (λ d may. tt), tt)
       script_honest ReadFault ended = ((tt, tt), (λ d may. tt), tt)
       script_honest (LogFull end most) ended = ((tt, tt), (λ d may. tt), tt)
+      script_honest TooSmall ended = ((tt, tt), (λ d may. tt), tt)
+      script_honest NotLoaded ended = ((tt, tt), (λ d may. tt), tt)
 
   -- ---- a generated script
   module _ (clients size number : ℕ) (within : AreWithin clients size) (c : Course V) (base : List Record) (own : IsOwn g base c.store) where
@@ -566,12 +569,17 @@ module _ {V : Type 0} (g : Ghosts V)
     generator_honest mid count (BadScript line kind) ended = tt
     generator_honest mid count TooLong ended = tt
     generator_honest mid count ReadFault ended = tt
+    generator_honest mid count TooSmall ended = tt
+    generator_honest mid count NotLoaded ended = tt
 
   -- ---- each task of the words
   honest : (c : Course V) (base : List Record) → IsOwn g base c.store → (words : List (List ℕ)) (mid : Option (List ℕ)) (count : ℕ) (task : Option Task) → meaning words ≡ task → PokesNowhere task c
       → (status : Status) (ended : Ended g task c mid count status) → AreHonest g c mid count task status ended
   honest c base own words mid count None is nowhere status ended = tt
   honest c base own words mid count (Some Dump) is nowhere status ended = tt
+  honest c base own words mid count (Some Show) is nowhere status ended = tt
+  honest c base own words mid count (Some Standing) is nowhere status ended = tt
+  honest c base own words mid count (Some (Load index heap)) is nowhere status ended = tt
   honest c base own words mid count (Some (Run precheck limit)) is nowhere status ended = script_honest limit precheck c mid count base own nowhere status ended
   honest c base own words mid count (Some (Generate clients size number)) is nowhere status ended =
       let range : IsInRange (Generate clients size number) = in_range words (Generate clients size number) is in

@@ -6,7 +6,7 @@ use Rattle.dali_lists.proofs.Members.{contains_first}
 use Rattle.dali_arguments.specs.Meaning.{meaning}
 use Rattle.dali_arguments.specs.Laws.{IsInRange}
 use Rattle.dali_arguments.specs.declared.task.Task.{Task}
-use Rattle.dali_arguments.specs.declared.task.Task.TheVariants.{Run, Generate, Dump}
+use Rattle.dali_arguments.specs.declared.task.Task.TheVariants.{Run, Generate, Dump, Show, Status as Standing, Load}
 use Rattle.dali_arguments.proofs.InRange.{in_range}
 use Rattle.dali_again.specs.Found.{FindsIt}
 use Rattle.dali_batch.specs.Reads.{OnlyReads}
@@ -42,7 +42,7 @@ use Rattle.dali_run.specs.declared.halt.Halt.TheVariants as halts
 use Rattle.dali_run.specs.declared.program.Program.{Program}
 use Rattle.dali_run.specs.declared.program.Program.TheVariants.{Up, Down}
 use Rattle.dali_run.specs.declared.status.Status.{Status}
-use Rattle.dali_run.specs.declared.status.Status.TheVariants.{Done, BadWords, BadScript, TooLong, ReadFault, WriteFault, StoreFault, BadStore, Unformatted, Formatted, OutOfMemory, LogFull}
+use Rattle.dali_run.specs.declared.status.Status.TheVariants.{Done, BadWords, BadScript, TooLong, ReadFault, WriteFault, StoreFault, BadStore, Unformatted, Formatted, OutOfMemory, LogFull, TooSmall, NotLoaded}
 use Rattle.dali_run.specs.Ends.{Course, Ended, EndedGenerator, EndedScript, GeneratorFails, GeneratorFinds, GeneratorIsRefused, GeneratorLoses, GeneratorStops, GeneratorWants, HasStopped, Untouched}
 use Rattle.dali_run.specs.Generating.{FailsIn, IsCrashed, IsCutRound, IsMade, IsPlayed}
 use Rattle.dali_run.specs.Headline.{oks_of, KeepsIn, IsAnswer, HasKept, Keeps, KeepsLeft, KeepsWhere, KeepsWithin, KeepsBetween, KeptAt, KeptWithin, KeptLost, KeptBroken, KeptAlone, KeptFailed, KeptFailing, SafeWithin, oks_by, Restores, Answers, Along, StoppedKeeps, WantingKeeps, ScriptKeeps, KeepsSince, KeepsOn, oks_played, PlayedKeeps, CrashedKeeps, FoundKeeps, LastKeeps, StopKeeps, RefusedKeeps, LostKeeps, FaultKeeps, WantKeeps, GeneratorKeeps, Kept, AcknowledgedSurvive, WorkedLinesAcknowledge}
@@ -366,6 +366,8 @@ module _ {V : Type 0} (g : Ghosts V)
     failing_keeps Safe kept halts.ReadFault command fit old f fails known = absurd fails
     failing_keeps Safe kept halts.WriteFault command fit old f fails known = absurd fails
     failing_keeps Safe kept (halts.LogFull end most) command fit old f fails known = absurd fails
+    failing_keeps Safe kept halts.TooSmall command fit old f fails known = absurd fails
+    failing_keeps Safe kept halts.NotLoaded command fit old f fails known = absurd fails
 
     -- one that isn't a round
     other_fails : (Safe : Disk → Type 0) (kept : List ℕ) (halt : Halt) (command : Command) → IsFit command → is_round command ≡ false → (old : Program V) (f : Fuse V)
@@ -381,6 +383,8 @@ module _ {V : Type 0} (g : Ghosts V)
     other_fails Safe kept halts.ReadFault command fit none old f fails known = absurd fails
     other_fails Safe kept halts.WriteFault command fit none old f fails known = absurd fails
     other_fails Safe kept (halts.LogFull end most) command fit none old f fails known = absurd fails
+    other_fails Safe kept halts.TooSmall command fit none old f fails known = absurd fails
+    other_fails Safe kept halts.NotLoaded command fit none old f fails known = absurd fails
 
     along : (Behind : (Disk → Type 0) → List ℕ → Type 0) (Safe : Disk → Type 0) (commands : List Command) → AreFit commands → (kept : List ℕ) (old : Program V) (text : List ℕ) (new : Program V)
         → (runs : RunsAll g limit precheck old commands text new) → KnownAt g Safe kept old
@@ -471,6 +475,8 @@ module _ {V : Type 0} (g : Ghosts V)
       script_keeps Formatted ended = stopped halts.Formatted ended
       script_keeps OutOfMemory ended = wanting ended
       script_keeps (LogFull end most) ended = absurd ended
+      script_keeps TooSmall ended = absurd ended
+      script_keeps NotLoaded ended = absurd ended
       script_keeps BadWords ended = absurd ended
       script_keeps (BadScript line kind) ended = same_store (committed base) (itself base) ended.1.0
       script_keeps TooLong ended = same_store (committed base) (itself base) ended.1.0
@@ -509,6 +515,8 @@ module _ {V : Type 0} (g : Ghosts V)
   crash_less halts.ReadFault choice old f fails = absurd fails
   crash_less halts.WriteFault choice old f fails = absurd fails
   crash_less (halts.LogFull end most) choice old f fails = absurd fails
+  crash_less halts.TooSmall choice old f fails = absurd fails
+  crash_less halts.NotLoaded choice old f fails = absurd fails
 
   -- a round in which nobody wrote astray
   between_since : (kept : List ℕ) (c d : Core (Fuse V)) → KeepsBetween g kept c d → IsHonestWithin g c d
@@ -733,6 +741,8 @@ module _ {V : Type 0} (g : Ghosts V)
     generator_keeps (BadScript line kind) ended back = absurd ended
     generator_keeps TooLong ended back = absurd ended
     generator_keeps ReadFault ended back = absurd ended
+    generator_keeps TooSmall ended back = absurd ended
+    generator_keeps NotLoaded ended back = absurd ended
 
   keeps : (words : List (List ℕ)) (c : Course V) (base : List Record) (own : IsOwn g base c.store) (mid : Option (List ℕ)) (count : ℕ) (task : Option Task) → meaning words ≡ task
       → (status : Status) (ended : Ended g task c mid count status)
@@ -743,6 +753,15 @@ module _ {V : Type 0} (g : Ghosts V)
   keeps words c base own mid count (Some Dump) is status ended =
       left_keeps g (committed base) base c.store' (itself base)
       (survives g reads_now counts_now c base own words mid count (Some Dump) is status ended tt)
+  keeps words c base own mid count (Some Show) is status ended =
+      left_keeps g (committed base) base c.store' (itself base)
+      (survives g reads_now counts_now c base own words mid count (Some Show) is status ended tt)
+  keeps words c base own mid count (Some Standing) is status ended =
+      left_keeps g (committed base) base c.store' (itself base)
+      (survives g reads_now counts_now c base own words mid count (Some Standing) is status ended tt)
+  keeps words c base own mid count (Some (Load index heap)) is status ended =
+      left_keeps g (committed base) base c.store' (itself base)
+      (survives g reads_now counts_now c base own words mid count (Some (Load index heap)) is status ended tt)
   keeps words c base own mid count (Some (Run precheck limit)) is status ended = script_keeps limit precheck c mid count base own status ended
   keeps words c base own mid count (Some (Generate clients size number)) is status ended =
       let range : IsInRange (Generate clients size number) = in_range words (Generate clients size number) is in

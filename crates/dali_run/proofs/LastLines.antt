@@ -1,11 +1,13 @@
 -- That what was read, run and written before the last line doesn't depend on what the sink has behind it.
 use Rattle.std.proofs.Common.{ℕ, Bool, List, Option, Some, None}
 use Rattle.dali_arguments.specs.declared.task.Task.{Task}
-use Rattle.dali_arguments.specs.declared.task.Task.TheVariants.{Run, Generate, Dump}
+use Rattle.dali_arguments.specs.declared.task.Task.TheVariants.{Run, Generate, Dump, Show, Status as Standing, Load}
+use Rattle.dali_inspect.specs.declared.inspecting.Inspection.{Inspection}
 use Rattle.dali_store.specs.declared.store.Store.{Ghosts}
 use Rattle.dali_run.specs.declared.status.Status.{Status}
-use Rattle.dali_run.specs.declared.status.Status.TheVariants.{Done, BadWords, BadScript, TooLong, ReadFault, WriteFault, StoreFault, BadStore, Unformatted, Formatted, OutOfMemory, LogFull}
-use Rattle.dali_run.specs.Ends.{Course, Ended, EndedDump, EndedGenerator, EndedNone, EndedScript}
+use Rattle.dali_run.specs.declared.status.Status.TheVariants.{Done, BadWords, BadScript, TooLong, ReadFault, WriteFault, StoreFault, BadStore, Unformatted, Formatted, OutOfMemory, LogFull, TooSmall, NotLoaded}
+use Rattle.dali_run.specs.Ends.{Course, Ended, EndedDump, EndedGenerator, EndedLoad, EndedLook, EndedNone, EndedScript}
+use Rattle.dali_run.specs.Looking.{TellsRecords, TellsStatus}
 
 module _ {V : Type 0} (g : Ghosts V)
     (c : Course V) (taken' : Option (List ℕ)) (write_faults' : ℕ) (mid : Option (List ℕ)) (count : ℕ) where
@@ -25,6 +27,8 @@ module _ {V : Type 0} (g : Ghosts V)
   of_script precheck limit Formatted e = e
   of_script precheck limit OutOfMemory e = e
   of_script precheck limit (LogFull end most) e = e
+  of_script precheck limit TooSmall e = e
+  of_script precheck limit NotLoaded e = e
 
   of_generator : (clients size number : ℕ) (status : Status) → EndedGenerator g clients size number c mid count status → EndedGenerator g clients size number later mid count status
   of_generator clients size number Done e = e
@@ -39,6 +43,8 @@ module _ {V : Type 0} (g : Ghosts V)
   of_generator clients size number Formatted e = e
   of_generator clients size number OutOfMemory e = e
   of_generator clients size number (LogFull end most) e = e
+  of_generator clients size number TooSmall e = e
+  of_generator clients size number NotLoaded e = e
 
   of_dump : (status : Status) → EndedDump g c mid count status → EndedDump g later mid count status
   of_dump Done e = e
@@ -53,6 +59,40 @@ module _ {V : Type 0} (g : Ghosts V)
   of_dump Formatted e = e
   of_dump OutOfMemory e = e
   of_dump (LogFull end most) e = e
+  of_dump TooSmall e = e
+  of_dump NotLoaded e = e
+
+  of_look : (P : Inspection → List ℕ → Type 0) (status : Status) → EndedLook g P c mid count status → EndedLook g P later mid count status
+  of_look P Done e = e
+  of_look P BadWords e = e
+  of_look P (BadScript line kind) e = e
+  of_look P TooLong e = e
+  of_look P ReadFault e = e
+  of_look P WriteFault e = e
+  of_look P StoreFault e = e
+  of_look P (BadStore file at) e = e
+  of_look P Unformatted e = e
+  of_look P Formatted e = e
+  of_look P OutOfMemory e = e
+  of_look P (LogFull end most) e = e
+  of_look P TooSmall e = e
+  of_look P NotLoaded e = e
+
+  of_load : (index heap : ℕ) (status : Status) → EndedLoad g index heap c mid count status → EndedLoad g index heap later mid count status
+  of_load index heap Done e = e
+  of_load index heap BadWords e = e
+  of_load index heap (BadScript line kind) e = e
+  of_load index heap TooLong e = e
+  of_load index heap ReadFault e = e
+  of_load index heap WriteFault e = e
+  of_load index heap StoreFault e = e
+  of_load index heap (BadStore file at) e = e
+  of_load index heap Unformatted e = e
+  of_load index heap Formatted e = e
+  of_load index heap OutOfMemory e = e
+  of_load index heap (LogFull end most) e = e
+  of_load index heap TooSmall e = e
+  of_load index heap NotLoaded e = e
 
   of_none : (status : Status) → EndedNone g c mid status → EndedNone g later mid status
   of_none Done e = e
@@ -67,9 +107,14 @@ module _ {V : Type 0} (g : Ghosts V)
   of_none Formatted e = e
   of_none OutOfMemory e = e
   of_none (LogFull end most) e = e
+  of_none TooSmall e = e
+  of_none NotLoaded e = e
 
   pub ended_still : (task : Option Task) (status : Status) → Ended g task c mid count status → Ended g task later mid count status
   ended_still None status e = of_none status e
   ended_still (Some (Run precheck limit)) status e = of_script precheck limit status e
   ended_still (Some (Generate clients size number)) status e = of_generator clients size number status e
   ended_still (Some Dump) status e = of_dump status e
+  ended_still (Some Show) status e = of_look TellsRecords status e
+  ended_still (Some Standing) status e = of_look TellsStatus status e
+  ended_still (Some (Load index heap)) status e = of_load index heap status e

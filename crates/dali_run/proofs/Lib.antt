@@ -27,6 +27,8 @@ mod Cleanings
 mod Unpoked
 mod Failing
 mod Rising
+mod LoadOwn
+mod Loads
 mod Completing
 mod Straying
 mod Pokings

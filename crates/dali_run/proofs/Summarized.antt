@@ -8,7 +8,7 @@ use Rattle.dali_again.specs.Found.{FindsIt}
 use Rattle.dali_arguments.specs.Laws.{IsInRange}
 use Rattle.dali_arguments.specs.Meaning.{meaning}
 use Rattle.dali_arguments.specs.declared.task.Task.{Task}
-use Rattle.dali_arguments.specs.declared.task.Task.TheVariants.{Run, Generate, Dump}
+use Rattle.dali_arguments.specs.declared.task.Task.TheVariants.{Run, Generate, Dump, Show, Status as Standing, Load}
 use Rattle.dali_arguments.proofs.InRange.{in_range}
 use Rattle.dali_run.proofs.Made.{restart_begins}
 use Rattle.dali_run.proofs.Shown.{right_at}
@@ -267,6 +267,9 @@ module _ {V : Type 0} (g : Ghosts V)
         → AreHonest g c mid count task Done ended → Appends c.taken (summary_left clients size number) mid
     of_task words None is clients size number same mid count ended honest = absurd cc
     of_task words (Some Dump) is clients size number same mid count ended honest = absurd cc
+    of_task words (Some Show) is clients size number same mid count ended honest = absurd cc
+    of_task words (Some Standing) is clients size number same mid count ended honest = absurd cc
+    of_task words (Some (Load index heap)) is clients size number same mid count ended honest = absurd cc
     of_task words (Some (Run precheck limit)) is clients size number same mid count ended honest = absurd cc
     of_task words (Some (Generate a b n)) is clients size number same mid count ended honest =
         let range : IsInRange (Generate a b n) = in_range words (Generate a b n) is in

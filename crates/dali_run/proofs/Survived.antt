@@ -5,7 +5,7 @@ use Rattle.std.specs.Prelude.{IfSome, is_some}
 use Rattle.dali_arguments.specs.Laws.{IsInRange}
 use Rattle.dali_arguments.specs.Meaning.{meaning}
 use Rattle.dali_arguments.specs.declared.task.Task.{Task}
-use Rattle.dali_arguments.specs.declared.task.Task.TheVariants.{Run, Generate, Dump}
+use Rattle.dali_arguments.specs.declared.task.Task.TheVariants.{Run, Generate, Dump, Show, Status as Standing, Load}
 use Rattle.dali_arguments.proofs.InRange.{in_range}
 use Rattle.dali_batch.specs.Reads.{OnlyReads}
 use Rattle.dali_generator.specs.Generated.{AreWithin, generated, index_regions, heap_regions}
@@ -25,9 +25,11 @@ use Rattle.dali_run.specs.declared.halt.Halt.TheVariants as halts
 use Rattle.dali_run.specs.declared.program.Program.{Program}
 use Rattle.dali_run.specs.declared.program.Program.TheVariants.{Up}
 use Rattle.dali_run.specs.declared.status.Status.{Status}
-use Rattle.dali_run.specs.declared.status.Status.TheVariants.{Done, BadWords, BadScript, TooLong, ReadFault, WriteFault, StoreFault, BadStore, Unformatted, Formatted, OutOfMemory, LogFull}
+use Rattle.dali_run.specs.declared.status.Status.TheVariants.{Done, BadWords, BadScript, TooLong, ReadFault, WriteFault, StoreFault, BadStore, Unformatted, Formatted, OutOfMemory, LogFull, TooSmall, NotLoaded}
 use Rattle.dali_run.specs.Dumping.{NotDumped}
-use Rattle.dali_run.specs.Ends.{Course, Ended, EndedDump, EndedGenerator, EndedNone, GeneratorFails, GeneratorFinds, GeneratorLoses, GeneratorStops, GeneratorWants}
+use Rattle.dali_run.specs.Looking.{NotLooked, TellsRecords, TellsStatus}
+use Rattle.dali_inspect.specs.declared.inspecting.Inspection.{Inspection}
+use Rattle.dali_run.specs.Ends.{Course, Ended, EndedDump, EndedGenerator, EndedLook, EndedNone, GeneratorFails, GeneratorFinds, GeneratorLoses, GeneratorStops, GeneratorWants}
 use Rattle.dali_run.specs.Generating.{FailsIn, IsCrashed, IsCutRound, IsMade, IsPlayed}
 use Rattle.dali_run.specs.Fails.{Fails}
 use Rattle.dali_run.specs.Honest.{CutIsHonest, pokes}
@@ -37,6 +39,7 @@ use Rattle.dali_run.specs.Told.{IsFit, sizes_of, told_by}
 use Rattle.dali_run.proofs.Fit.{right_blocks}
 use Rattle.dali_run.proofs.Honest.{Calm, behind_honest, calm_crashed, calm_down, calm_played, found_honest, loss_honest, played_honest, some_read}
 use Rattle.dali_run.proofs.Rising.{never_stops}
+use Rattle.dali_run.proofs.LoadOwn.{loaded_own}
 use Rattle.dali_run.proofs.Surviving.{Onward, begins_down, begins_then, fails_own, made_first, never_bad as bad_never, none_down, none_yet, own_all, own_same, own_store, script_survives, step_goes, step_logs}
 
 none_first : (x : Record) (L : List Record) → [] ≡ x ∷ L → ⊥
@@ -256,6 +259,8 @@ module _ {V : Type 0} (g : Ghosts V)
       generator_survives mid count (BadScript line kind) ended = absurd ended
       generator_survives mid count TooLong ended = absurd ended
       generator_survives mid count ReadFault ended = absurd ended
+      generator_survives mid count TooSmall ended = absurd ended
+      generator_survives mid count NotLoaded ended = absurd ended
 
   -- ---- the other tasks
   module _ (c : Course V) (base : List Record) (own : IsOwn g base c.store) where
@@ -278,6 +283,22 @@ module _ {V : Type 0} (g : Ghosts V)
     dumped mid count OutOfMemory ended = not_dumped halts.OutOfMemory ended.0
     dumped mid count _ ended = absurd ended
 
+    not_looked : (halt : Halt) → NotLooked g halt c.store c.store' → IsOwn g base c.store'
+    not_looked halts.StoreFault none = read_on base c.store c.store' none.0 own
+    not_looked (halts.BadStore file at) none = read_on base c.store c.store' none.0 own
+    not_looked halts.Unformatted none = read_on base c.store c.store' none.0 own
+    not_looked halts.OutOfMemory none = read_on base c.store c.store' none.0 own
+    not_looked _ none = absurd none
+
+    looked : (P : Inspection → List ℕ → Type 0) (mid : Option (List ℕ)) (count : ℕ) (status : Status) → EndedLook g P c mid count status → IsOwn g base c.store'
+    looked P mid count Done ended = read_on base c.store c.store' ended.1.finds.read own
+    looked P mid count WriteFault ended = read_on base c.store c.store' ended.1.finds.read own
+    looked P mid count StoreFault ended = not_looked halts.StoreFault ended.0
+    looked P mid count (BadStore file at) ended = not_looked (halts.BadStore file at) ended.0
+    looked P mid count Unformatted ended = not_looked halts.Unformatted ended.0
+    looked P mid count OutOfMemory ended = not_looked halts.OutOfMemory ended.0
+    looked P mid count _ ended = absurd ended
+
     of_none : (mid : Option (List ℕ)) (status : Status) → EndedNone g c mid status → IsOwn g base c.store'
     of_none mid BadWords ended = untouched ended.1.0
     of_none mid OutOfMemory ended = untouched ended.1.0
@@ -289,6 +310,9 @@ module _ {V : Type 0} (g : Ghosts V)
         → Survives g c mid count base task status ended
     survives words mid count None is status ended honest = of_none mid status ended
     survives words mid count (Some Dump) is status ended honest = dumped mid count status ended
+    survives words mid count (Some Show) is status ended honest = looked TellsRecords mid count status ended
+    survives words mid count (Some Standing) is status ended honest = looked TellsStatus mid count status ended
+    survives words mid count (Some (Load index heap)) is status ended honest = loaded_own g reads_now counts_now index heap (in_range words (Load index heap) is) c base own mid count status ended
     survives words mid count (Some (Run precheck limit)) is status ended honest =
         script_survives g reads_now counts_now limit precheck c mid count base own status ended honest
     survives words mid count (Some (Generate clients size number)) is status ended honest =

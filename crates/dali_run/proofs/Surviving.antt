@@ -72,7 +72,7 @@ use Rattle.dali_run.specs.declared.halt.Halt.TheVariants as halts
 use Rattle.dali_run.specs.declared.program.Program.{Program}
 use Rattle.dali_run.specs.declared.program.Program.TheVariants.{Up, Down}
 use Rattle.dali_run.specs.declared.status.Status.{Status}
-use Rattle.dali_run.specs.declared.status.Status.TheVariants.{Done, BadWords, BadScript, TooLong, ReadFault, WriteFault, StoreFault, BadStore, Unformatted, Formatted, OutOfMemory, LogFull}
+use Rattle.dali_run.specs.declared.status.Status.TheVariants.{Done, BadWords, BadScript, TooLong, ReadFault, WriteFault, StoreFault, BadStore, Unformatted, Formatted, OutOfMemory, LogFull, TooSmall, NotLoaded}
 use Rattle.dali_run.specs.Ends.{Course, EndedScript, HasStopped, Untouched}
 use Rattle.dali_run.specs.Fails.{AloneFails, Breaks, Fails, IsBadFor, Lost, StoreFailsIn}
 use Rattle.dali_run.specs.Program.{IsDown, store_of, told_in, leaves_in, moment_in, since_in, faults_in, fused}
@@ -944,6 +944,8 @@ module _ {V : Type 0} (g : Ghosts V)
     fails_own Safe halts.ReadFault command fit base old f fails a = absurd fails
     fails_own Safe halts.WriteFault command fit base old f fails a = absurd fails
     fails_own Safe (halts.LogFull end most) command fit base old f fails a = absurd fails
+    fails_own Safe halts.TooSmall command fit base old f fails a = absurd fails
+    fails_own Safe halts.NotLoaded command fit base old f fails a = absurd fails
 
     module _ (c : Course V) (mid : Option (List ℕ)) (count : ℕ) (base : List Record) (own : IsOwn g base c.store) where
       untouched : c.store' ≡ c.store → IsOwn g base c.store'
@@ -1029,6 +1031,8 @@ module _ {V : Type 0} (g : Ghosts V)
       script_survives Formatted ended honest = stop_survives halts.Formatted ended honest.0
       script_survives OutOfMemory ended honest = memory_survives ended honest.0
       script_survives (LogFull end most) ended honest = absurd ended
+      script_survives TooSmall ended honest = absurd ended
+      script_survives NotLoaded ended honest = absurd ended
       script_survives BadWords ended honest = absurd ended
       script_survives (BadScript line kind) ended honest = untouched ended.1.0
       script_survives TooLong ended honest = untouched ended.1.0

@@ -32,7 +32,7 @@ use Rattle.dali_run.specs.declared.program.Program.TheVariants.{Up, Down}
 use Rattle.dali_run.specs.declared.halt.Halt.{Halt}
 use Rattle.dali_run.specs.declared.halt.Halt.TheVariants as halts
 use Rattle.dali_run.specs.declared.status.Status.{Status}
-use Rattle.dali_run.specs.declared.status.Status.TheVariants.{Done, BadWords, BadScript, TooLong, ReadFault, WriteFault, StoreFault, BadStore, Unformatted, Formatted, OutOfMemory, LogFull}
+use Rattle.dali_run.specs.declared.status.Status.TheVariants.{Done, BadWords, BadScript, TooLong, ReadFault, WriteFault, StoreFault, BadStore, Unformatted, Formatted, OutOfMemory, LogFull, TooSmall, NotLoaded}
 use Rattle.dali_run.specs.Ends.{Course, EndedScript, HasStopped, Untouched}
 use Rattle.dali_run.specs.Masks.{list_in, poke_in, answer_in, done_on, masks_of, xor_of, has_any, AreTold, NamesOf, IsNone, NamesTold, ShowsNone, NamesBy, TellsBy, VerifiesNone, masks_behind, AllNamed, AllTold, NamedThere, ToldThere, BeforeHalt, BeforeWant, OfRun, StraysAreNamed, PokesAreTold}
 use Rattle.dali_run.specs.Program.{told_in}
@@ -388,6 +388,8 @@ module _ {V : Type 0} (g : Ghosts V)
     script_told TooLong ended honest = tt
     script_told ReadFault ended honest = tt
     script_told (LogFull end most) ended honest = tt
+    script_told TooSmall ended honest = tt
+    script_told NotLoaded ended honest = tt
 
   module _ (c : Course V) (mid : Option (List ℕ)) (count : ℕ) where
     abbrev There : (start : V) (script : List Command) (count : ℕ) (text : List ℕ) (new : Program V) → HasRun g limit precheck start script count text new → Type 0
@@ -416,6 +418,8 @@ module _ {V : Type 0} (g : Ghosts V)
     script_named TooLong ended = tt
     script_named ReadFault ended = tt
     script_named (LogFull end most) ended = tt
+    script_named TooSmall ended = tt
+    script_named NotLoaded ended = tt
 
   pub strays_are_named : StraysAreNamed g limit precheck
   strays_are_named c status e = script_named c e.mid e.count status e.ended

@@ -1,6 +1,6 @@
 -- Without a stray write an engine is what a plain replay of its whole log comes to.
-use Rattle.std.proofs.Common.{◌≡◌, ℕ, ◌+◌, Bool, true, false, List, [], ◌∷◌, ◌++◌, Option, Some, None, refl, sym, ◌∙◌, ap, subst, map, take, drop, length, inl, inr, append_assoc, zero, suc}
-use Rattle.std.specs.Prelude.{◌↔◌, IfSome, is_some, slice_get, flat_map, Contains}
+use Rattle.std.proofs.Common.{◌≡◌, ℕ, ◌+◌, Bool, true, false, List, [], ◌∷◌, ◌++◌, Option, Some, None, refl, sym, ◌∙◌, ap, subst, take, drop, length, inl, inr, append_assoc, zero, suc}
+use Rattle.std.specs.Prelude.{◌↔◌, IfSome, slice_get, flat_map, Contains}
 use Rattle.std.specs.List.Sorted.{IsStrictlyIncreasing}
 use Rattle.std.proofs.Math.Seq.{take-append-add}
 use Rattle.std.proofs.lemmas.List.{append-nil, take-append-drop}

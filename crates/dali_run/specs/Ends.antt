@@ -5,23 +5,29 @@
 --                               this one then
 --     EndedGenerator            of a generated script's
 --     EndedDump                 of a dump
+--     EndedLook P               of a task that tells what P says of what a restart would find
+--     EndedLoad                 of the loading of rows
 --     Ended task                of each task of the words, and where they are none
 --     EndsAs task               a run from its start to its end; each stream's count of faults stayed, until the last line, unless the status says that it failed
 --     HasEnded words            so ends what the words mean
 use Rattle.std.specs.Prelude.{◌≡◌, ◌⊎◌, ℕ, ◌≤◌, Bool, List, Option, Some, None}
 use Rattle.dali_arguments.specs.Meaning.{meaning}
 use Rattle.dali_arguments.specs.declared.task.Task.{Task}
-use Rattle.dali_arguments.specs.declared.task.Task.TheVariants.{Run, Generate, Dump}
+use Rattle.dali_arguments.specs.declared.task.Task.TheVariants.{Run, Generate, Dump, Show, Status as Standing, Load}
 use Rattle.dali_memstore.specs.Fuse.{inner}
 use Rattle.dali_memstore.specs.declared.fuse.Fuse.{Fuse}
+use Rattle.dali_inspect.specs.declared.inspecting.Inspection.{Inspection}
+use Rattle.dali_listing.specs.declared.Listed.{Listed}
 use Rattle.dali_whole.specs.declared.whole.Core.{Core}
 use Rattle.dali_run.specs.declared.halt.Halt.{Halt}
 use Rattle.dali_run.specs.declared.halt.Halt.TheVariants as halts
 use Rattle.dali_run.specs.declared.status.Status.{Status}
-use Rattle.dali_run.specs.declared.status.Status.TheVariants.{Done, BadWords, BadScript, TooLong, ReadFault, WriteFault, StoreFault, BadStore, Unformatted, Formatted, OutOfMemory, LogFull}
+use Rattle.dali_run.specs.declared.status.Status.TheVariants.{Done, BadWords, BadScript, TooLong, ReadFault, WriteFault, StoreFault, BadStore, Unformatted, Formatted, OutOfMemory, LogFull, TooSmall, NotLoaded}
 use Rattle.dali_run.specs.Dumping.{Dumps, NotDumped}
 use Rattle.dali_run.specs.Generating.{IsFound, IsLost, Summarizes, RefusedIn, NotFound, EndedBy}
 use Rattle.dali_run.specs.Halts.{last_line}
+use Rattle.dali_run.specs.Looking.{Looks, NotLooked, TellsRecords, TellsStatus}
+use Rattle.dali_run.specs.Loading.{HasNone, HasRows, Loads, NotLoads, count_text}
 use Rattle.dali_run.specs.Scripts.{Spells, SpellsNone, RanWhole, StoppedIn, CutIn}
 use Rattle.dali_script.specs.declared.commands.Command.{Command}
 use Rattle.dali_store.specs.Faults.{Rose}
@@ -104,6 +110,8 @@ module _ {V : Type 0} (g : Ghosts V) (limit : ℕ) (precheck : Bool) where
   -- the words have a meaning, and no command of a script ends it for want of room
   EndedScript c mid count BadWords = ⊥
   EndedScript c mid count (LogFull end most) = ⊥
+  EndedScript c mid count TooSmall = ⊥
+  EndedScript c mid count NotLoaded = ⊥
 
 module _ {V : Type 0} (g : Ghosts V) where
   -- the log has the room that it has where nothing is said
@@ -158,6 +166,38 @@ module _ {V : Type 0} (g : Ghosts V) where
   EndedDump c mid count OutOfMemory = NotDumped g halts.OutOfMemory c.store c.store' × Silent c mid
   EndedDump c mid count _ = ⊥
 
+  module _ (P : Inspection → List ℕ → Type 0) where
+    abbrev pub EndedLook : Course V → Option (List ℕ) → ℕ → Status → Type 0
+    EndedLook c mid count Done = (text : List ℕ) × Looks g P c.store text c.store' × Tells c mid text
+    EndedLook c mid count WriteFault = (text : List ℕ) × Looks g P c.store text c.store' × TellsSome c mid count text
+    EndedLook c mid count StoreFault = NotLooked g halts.StoreFault c.store c.store' × Silent c mid
+    EndedLook c mid count (BadStore file at) = NotLooked g (halts.BadStore file at) c.store c.store' × Silent c mid
+    EndedLook c mid count Unformatted = NotLooked g halts.Unformatted c.store c.store' × Silent c mid
+    EndedLook c mid count OutOfMemory = NotLooked g halts.OutOfMemory c.store c.store' × Silent c mid
+    EndedLook c mid count _ = ⊥
+
+  module _ (index heap : ℕ) where
+    -- rows were read, of which this is so; nothing was written
+    abbrev pub LoadStops : Halt → Course V → Option (List ℕ) → Type 0
+    LoadStops halt c mid = (rows : List Listed) × HasRows c.left rows c.left' × NotLoads g index heap rows halt c.store c.store' × (mid ≡ c.taken)
+
+    abbrev pub EndedLoad : Course V → Option (List ℕ) → ℕ → Status → Type 0
+    EndedLoad c mid count Done = (rows : List Listed) × HasRows c.left rows c.left' × Loads g index heap rows c.store c.store' × Appends c.taken (count_text rows) mid
+    EndedLoad c mid count WriteFault =
+        (rows : List Listed) × HasRows c.left rows c.left' × Loads g index heap rows c.store c.store' × AppendsSome c.taken (count_text rows) mid × Rose c.write_faults count
+    EndedLoad c mid count (BadScript line kind) = HasNone c.left line kind c.left' × Untouched c mid
+    EndedLoad c mid count TooLong = ReadTooMany c.left 268435456 c.left' × Untouched c mid
+    EndedLoad c mid count ReadFault = Rose c.read_faults c.read_faults' × Untouched c mid
+    EndedLoad c mid count OutOfMemory = Untouched c mid ⊎ LoadStops halts.OutOfMemory c mid
+    EndedLoad c mid count StoreFault = LoadStops halts.StoreFault c mid
+    EndedLoad c mid count (BadStore file at) = LoadStops (halts.BadStore file at) c mid
+    EndedLoad c mid count Unformatted = LoadStops halts.Unformatted c mid
+    EndedLoad c mid count Formatted = LoadStops halts.Formatted c mid
+    EndedLoad c mid count (LogFull end most) = LoadStops (halts.LogFull end most) c mid
+    EndedLoad c mid count TooSmall = LoadStops halts.TooSmall c mid
+    EndedLoad c mid count NotLoaded = LoadStops halts.NotLoaded c mid
+    EndedLoad c mid count BadWords = ⊥
+
   -- the words are those of no command
   abbrev pub EndedNone : Course V → Option (List ℕ) → Status → Type 0
   EndedNone c mid BadWords = Unread c × Untouched c mid
@@ -169,6 +209,9 @@ module _ {V : Type 0} (g : Ghosts V) where
   Ended (Some (Run precheck limit)) c mid count status = EndedScript g limit precheck c mid count status
   Ended (Some (Generate clients size number)) c mid count status = EndedGenerator clients size number c mid count status
   Ended (Some Dump) c mid count status = EndedDump c mid count status
+  Ended (Some Show) c mid count status = EndedLook TellsRecords c mid count status
+  Ended (Some Standing) c mid count status = EndedLook TellsStatus c mid count status
+  Ended (Some (Load index heap)) c mid count status = EndedLoad index heap c mid count status
 
   pub record EndsAs (task : Option Task) (c : Course V) (status : Status) : Type 0 where
     pub mid : Option (List ℕ)

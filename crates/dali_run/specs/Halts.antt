@@ -10,6 +10,8 @@ use Rattle.dali_arguments.specs.declared.error.ArgumentError.{ArgumentError}
 use Rattle.dali_arguments.specs.declared.error.ArgumentError.TheVariants as words
 use Rattle.dali_dump.specs.declared.error.DumpError.{DumpError}
 use Rattle.dali_dump.specs.declared.error.DumpError.TheVariants as dumps
+use Rattle.dali_inspect.specs.declared.error.InspectError.{InspectError}
+use Rattle.dali_inspect.specs.declared.error.InspectError.TheVariants as inspections
 use Rattle.dali_restart.specs.declared.error.RestartError.{RestartError}
 use Rattle.dali_restart.specs.declared.error.RestartError.TheVariants as restarts
 use Rattle.dali_script.specs.declared.faults.ScriptError.{ScriptError}
@@ -33,6 +35,13 @@ halt_of_restart restarts.Formatted = halts.Formatted
 halt_of_restart restarts.TooLong = halts.OutOfMemory
 halt_of_restart restarts.Unsteady = halts.OutOfMemory
 halt_of_restart restarts.OutOfMemory = halts.OutOfMemory
+
+abbrev pub halt_of_inspection : InspectError → Halt
+halt_of_inspection inspections.StoreFault = halts.StoreFault
+halt_of_inspection (inspections.BadStore file at) = halts.BadStore file at
+halt_of_inspection inspections.Unformatted = halts.Unformatted
+halt_of_inspection inspections.TooLong = halts.OutOfMemory
+halt_of_inspection inspections.OutOfMemory = halts.OutOfMemory
 
 abbrev pub halt_of_script : ScriptError → Halt
 halt_of_script (scripts.BadLine line kind) = halts.BadScript line kind
@@ -65,6 +74,8 @@ status_of halts.Unformatted = statuses.Unformatted
 status_of halts.Formatted = statuses.Formatted
 status_of (halts.LogFull end limit) = statuses.LogFull end limit
 status_of halts.OutOfMemory = statuses.OutOfMemory
+status_of halts.TooSmall = statuses.TooSmall
+status_of halts.NotLoaded = statuses.NotLoaded
 
 abbrev pub last_line : Status → List ℕ
 last_line statuses.Done = []
@@ -78,6 +89,8 @@ last_line (statuses.BadStore file at) = codes "bad store " ++ (name_of file ++ (
 last_line statuses.Unformatted = codes "unformatted\n"
 last_line statuses.Formatted = codes "formatted\n"
 last_line statuses.OutOfMemory = codes "out of memory\n"
+last_line statuses.TooSmall = codes "too small\n"
+last_line statuses.NotLoaded = codes "not loaded\n"
 last_line (statuses.LogFull end limit) = codes "log full " ++ (decimal end ++ (codes " " ++ (decimal limit ++ codes "\n")))
 
 -- the status of a run with this result

@@ -6,6 +6,8 @@ pub mod Generating
 pub mod Halts
 pub mod Headline
 pub mod Honest
+pub mod Looking
+pub mod Loading
 pub mod Masks
 pub mod Program
 pub mod Run

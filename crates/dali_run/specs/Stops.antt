@@ -4,13 +4,16 @@
 --     ScriptStops halt ..         the same of a script
 --     GeneratorHalts halt ..      the same of a generated script, and its summary
 --     DumpStops halt ..           the log wasn't written out
+--     LookStops P halt ..         what P says of what a restart would find wasn't
 use Rattle.std.specs.Prelude.{◌≡◌, ℕ, Bool, List}
+use Rattle.dali_inspect.specs.declared.inspecting.Inspection.{Inspection}
 use Rattle.dali_run.specs.declared.halt.Halt.{Halt}
 use Rattle.dali_run.specs.declared.halt.Halt.TheVariants.{BadScript, TooLong, ReadFault, WriteFault, StoreFault, LogFull, OutOfMemory}
 use Rattle.dali_run.specs.declared.program.Program.{Program}
 use Rattle.dali_run.specs.Dumping.{Dumps, NotDumped}
 use Rattle.dali_run.specs.Ends.{Generates, GeneratorFails, GeneratorIsRefused, GeneratorStops, GeneratorWants}
 use Rattle.dali_run.specs.Fails.{Fails}
+use Rattle.dali_run.specs.Looking.{Looks, NotLooked}
 use Rattle.dali_run.specs.Program.{store_of}
 use Rattle.dali_run.specs.Scripts.{SpellsNone, StoppedIn, CutIn}
 use Rattle.dali_run.specs.Steps.{Steps}
@@ -46,6 +49,10 @@ module _ {V K : Type 0} (g : Ghosts V) (k : SinkGhosts K) where
   abbrev pub DumpStops : Halt → V → V → K → K → Type 0
   DumpStops WriteFault old new sink sink' = (text : List ℕ) × Dumps g old text new × AppendsSome (k.taken sink) text (k.taken sink') × Rose (k.faults sink) (k.faults sink')
   DumpStops halt old new sink sink' = NotDumped g halt old new × (k.taken sink' ≡ k.taken sink)
+
+  abbrev pub LookStops : (Inspection → List ℕ → Type 0) → Halt → V → V → K → K → Type 0
+  LookStops P WriteFault old new sink sink' = (text : List ℕ) × Looks g P old text new × AppendsSome (k.taken sink) text (k.taken sink') × Rose (k.faults sink) (k.faults sink')
+  LookStops P halt old new sink sink' = NotLooked g halt old new × (k.taken sink' ≡ k.taken sink)
 
 module _ {V : Type 0} (g : Ghosts V) (clients size number : ℕ) where
   -- behind the generation of the blocks

@@ -5,6 +5,7 @@ ghost use Rattle.dali_run.specs.declared.halt.Halt.TheVariants.{OutOfMemory, Sto
 use crate::status::Status;
 use dali_arguments::ArgumentError;
 use dali_dump::DumpError;
+use dali_inspect::InspectError;
 use dali_restart::RestartError;
 use dali_script::{Kind, ScriptError};
 use dali_store::{FileName, StoreFault};
@@ -12,7 +13,7 @@ use dali_streams::ReadError;
 use std::alloc::AllocError;
 
 /// Why a script wasn't run to its end.
-#[derive(Clone, Copy, Debug, PartialEq, Eq)]
+#[derive(Clone, Copy, PartialEq, Eq)]
 pub enum Halt {
     /// The words aren't those of a command.
     BadWords,
@@ -35,6 +36,10 @@ pub enum Halt {
     /// The log has no room for a command: `end` is where it ends with the records that wait, `limit` how far it may go.
     LogFull { end: u64, limit: u64 },
     OutOfMemory,
+    /// The regions have no room for the rows of the source.
+    TooSmall,
+    /// The rows of the source aren't all there, for another reason than want of room.
+    NotLoaded,
 }
 
 impl From<AllocError> for Halt {
@@ -109,6 +114,21 @@ impl From<RestartError> for Halt {
     }
 }
 
+impl From<InspectError> for Halt {
+    ghost use Rattle.dali_run.specs.Halts.{halt_of_inspection};
+
+    ghost from_gives = { λ error e. e ≡ halt_of_inspection error };
+
+    fn from(error: InspectError) -> Self {
+        match error {
+            InspectError::StoreFault => Halt::StoreFault,
+            InspectError::BadStore { file, at } => Halt::BadStore { file, at },
+            InspectError::Unformatted => Halt::Unformatted,
+            InspectError::TooLong | InspectError::OutOfMemory => Halt::OutOfMemory,
+        }
+    }
+}
+
 impl From<ScriptError> for Halt {
     ghost use Rattle.dali_run.specs.Halts.{halt_of_script};
 
@@ -155,6 +175,8 @@ impl Halt {
             Halt::Formatted => Status::Formatted,
             Halt::LogFull { end, limit } => Status::LogFull { end, limit },
             Halt::OutOfMemory => Status::OutOfMemory,
+            Halt::TooSmall => Status::TooSmall,
+            Halt::NotLoaded => Status::NotLoaded,
         }
     }
 }

@@ -9,6 +9,8 @@ mod dumping;
 mod generating;
 mod halt;
 pub mod laws;
+mod loading;
+mod looking;
 mod program;
 mod rounds;
 mod scripts;
@@ -20,6 +22,7 @@ mod texts;
 mod top;
 
 pub use dali_stepwise::{Gate, OpenGate};
+pub use loading::SOURCE_LIMIT;
 pub use scripts::SCRIPT_LIMIT;
 pub use status::Status;
 pub use top::{refuse, run};

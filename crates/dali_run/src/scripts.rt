@@ -65,8 +65,8 @@ fn run_command<K: Sink, V: Store, G: Gate>(
     }
 }
 
-// Runs the commands in order, over a program that is down at first.
-fn run_script<K: Sink, V: Store, G: Gate>(
+/// Runs the commands in order, over a program that is down at first. The store comes back.
+pub fn run_script<K: Sink, V: Store, G: Gate>(
     setting: &Setting<'_, G>,
     script: &Script,
     sink: &mut K,

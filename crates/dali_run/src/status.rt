@@ -3,7 +3,7 @@ use dali_script::Kind;
 use dali_store::FileName;
 
 /// How a run ended.
-#[derive(Clone, Copy, Debug, PartialEq, Eq)]
+#[derive(Clone, Copy, PartialEq, Eq)]
 pub enum Status {
     /// Everything was read and run.
     Done,
@@ -29,4 +29,8 @@ pub enum Status {
     OutOfMemory,
     /// The log has no room for a command: `end` is where it ends with the records that wait, `limit` how far it may go.
     LogFull { end: u64, limit: u64 },
+    /// The regions have no room for the records.
+    TooSmall,
+    /// The records aren't all there, for another reason than want of room.
+    NotLoaded,
 }

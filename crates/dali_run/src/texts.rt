@@ -194,7 +194,8 @@ fn write_log_full<K: Sink>(sink: &mut K, end: u64, limit: u64) -> Result<(), Fai
     write_numbered(sink, b"", limit, b"\n")
 }
 
-fn name_of(file: FileName) -> &'static [u8]
+/// What is printed of a file.
+pub fn name_of(file: FileName) -> &'static [u8]
     ensures { result.now ≡ file_text file }
 {
     match file {
@@ -240,5 +241,7 @@ pub fn write_last_line<K: Sink>(sink: &mut K, halt: Halt) -> Result<(), Failed>
         Halt::Formatted => write_all(sink, b"formatted\n"),
         Halt::LogFull { end, limit } => write_log_full(sink, end, limit),
         Halt::OutOfMemory => write_all(sink, b"out of memory\n"),
+        Halt::TooSmall => write_all(sink, b"too small\n"),
+        Halt::NotLoaded => write_all(sink, b"not loaded\n"),
     }
 }

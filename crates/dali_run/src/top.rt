@@ -8,6 +8,8 @@ ghost use Rattle.dali_run.specs.Halts.{status_in};
 use crate::dumping::write_dump;
 use crate::generating::generate;
 use crate::halt::Halt;
+use crate::loading::load;
+use crate::looking::{write_show, write_status};
 use crate::scripts::run_source;
 use crate::setting::Setting;
 use crate::status::Status;
@@ -23,6 +25,9 @@ use std::thread::Threads;
 
 /// How many bytes the log's records have at most where the words don't say it.
 const LOG_LIMIT: u64 = 67_108_864;
+
+/// How many they have at most where rows are loaded.
+const LOAD_LIMIT: u64 = 268_435_456;
 
 // What the words name. The last line isn't written yet.
 fn run_task<S: Source, K: Sink, V: Store, G: Gate>(
@@ -64,6 +69,17 @@ fn run_task<S: Source, K: Sink, V: Store, G: Gate>(
             generate(&setting, clients, size, number, sink, store)
         }
         Task::Dump => write_dump(alloc, sink, store),
+        Task::Show => write_show(alloc, sink, store),
+        Task::Status => write_status(alloc, sink, store),
+        Task::Load { index, heap } => {
+            let setting = Setting {
+                alloc,
+                precheck: false,
+                limit: LOAD_LIMIT,
+                gate,
+            };
+            load(&setting, index, heap, source, sink, store)
+        }
     }
 }
 
@@ -113,7 +129,8 @@ pub fn refuse<K: Sink>(sink: &mut K) -> Status
 
 /// Runs the command that the words name, which leave out the program's name. `run` reads a script from the source to its
 /// end, runs it over the store, and writes the lines of each command to the sink once it is done. `gen` runs a generated
-/// script, and writes a summary of what it leaves. `dump` writes a line for each record of the store's log. Every other
+/// script, and writes a summary of what it leaves. `dump` writes a line for each record of the store's log, `show` the
+/// records that a restart would find, and `status` what a stranger wants to know of the database; these three only read. Every other
 /// status than `Done` and `WriteFault` ends with a last line of its own. The store comes back with every status. It takes
 /// memory for the words, the script, for what the database holds, and for the lines.
 ///

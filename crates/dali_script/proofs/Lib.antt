@@ -8,3 +8,6 @@ pub mod Steps
 pub mod Grouping
 pub mod Outcomes
 pub mod RightScripts
+mod FormsOfNames
+pub mod FirstWords
+mod Told

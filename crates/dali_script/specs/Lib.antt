@@ -8,3 +8,5 @@ pub mod Grammar
 pub mod Scripts
 pub mod Reading
 pub mod Parser
+pub mod Forms
+pub mod Reasons

@@ -11,7 +11,7 @@ const _: () = prove!(
 );
 
 /// A command of a client's block.
-#[derive(Clone, Copy, Debug)]
+#[derive(Clone, Copy)]
 pub enum ClientCommand {
     /// Begins a transaction.
     Begin,
@@ -39,7 +39,7 @@ pub enum ClientCommand {
 }
 
 /// The commands of a block. Contracts see a list.
-#[derive(Debug, Drop)]
+#[derive(Drop)]
 pub struct ClientCommands {
     commands: Vec<ClientCommand>,
 }
@@ -70,7 +70,7 @@ impl ClientCommands {
 }
 
 /// A client's block of a round.
-#[derive(Debug, Drop)]
+#[derive(Drop)]
 pub struct Block {
     /// The client's number.
     pub client: u32,
@@ -79,7 +79,7 @@ pub struct Block {
 }
 
 /// The blocks of a round. Contracts see a list.
-#[derive(Debug, Drop)]
+#[derive(Drop)]
 pub struct Blocks {
     blocks: Vec<Block>,
 }
@@ -110,7 +110,7 @@ impl Blocks {
 }
 
 /// A command of a script: a single command, or a round with all its blocks.
-#[derive(Debug, Drop)]
+#[derive(Drop)]
 pub enum Command {
     /// Formats the store: so many index regions and heap regions.
     Size { index: u32, heap: u32 },
@@ -141,7 +141,7 @@ pub enum Command {
 }
 
 /// A script. Contracts see the list of its commands.
-#[derive(Debug, Drop)]
+#[derive(Drop)]
 pub struct Script {
     commands: Vec<Command>,
 }

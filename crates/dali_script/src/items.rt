@@ -1,14 +1,15 @@
 //! What a command line says on its own, wherever it stands.
-ghost use Rattle.std.specs.Prelude.{◌≡◌, ◌≤◌, IfOk, map};
-ghost use Rattle.dali_script.specs.Items.{number_in, none, poke_of, item_of};
+ghost use Rattle.std.specs.Prelude.{◌≡◌, map};
+ghost use Rattle.dali_script.specs.Items.{none, poke_of, item_of};
 
 use crate::faults::Kind;
+use crate::forms::{CHOICE, CLIENT, HEAP, INDEX, OPERATION, PASSES, REGION, WORD, ranged};
 use crate::names::Name;
 use crate::texts::{mask, number, value};
 use dali_words::Value;
 
 /// A command line.
-#[derive(Clone, Copy, Debug)]
+#[derive(Clone, Copy)]
 pub enum Item {
     Size { index: u32, heap: u32 },
     Open,
@@ -34,16 +35,6 @@ pub enum Item {
     Fuse { passes: u64 },
 }
 
-fn ranged(text: &[u8], low: u64, high: u64) -> Result<u64, Kind>
-    ensures value { result ≡ number_in low high text.now }
-    ensures bound { IfOk result (λ n. n ≤ high) }
-{
-    match number(text) {
-        Some(number) if low <= number && number <= high => Ok(number),
-        _ => Err(Kind::Number),
-    }
-}
-
 fn alone(item: Item, arguments: &[&[u8]]) -> Result<Item, Kind>
     ensures { result ≡ none item (map (λ text. text.now) arguments.now) }
 {
@@ -60,8 +51,8 @@ fn size(arguments: &[&[u8]]) -> Result<Item, Kind>
         return Err(Kind::Arguments);
     };
     Ok(Item::Size {
-        index: ranged(index, 1, 32_768)? as u32,
-        heap: ranged(heap, 1, 65_536)? as u32,
+        index: ranged(index, INDEX)? as u32,
+        heap: ranged(heap, HEAP)? as u32,
     })
 }
 
@@ -72,7 +63,7 @@ fn client(arguments: &[&[u8]]) -> Result<Item, Kind>
         return Err(Kind::Arguments);
     };
     Ok(Item::Client {
-        number: ranged(number, 1, 64)? as u32,
+        number: ranged(number, CLIENT)? as u32,
     })
 }
 
@@ -129,7 +120,7 @@ fn die(arguments: &[&[u8]]) -> Result<Item, Kind>
         return Err(Kind::Arguments);
     };
     Ok(Item::Die {
-        operation: ranged(operation, 1, 1_000_000)?,
+        operation: ranged(operation, OPERATION)?,
     })
 }
 
@@ -137,8 +128,8 @@ fn poke_at(region: &[u8], word: &[u8], text: &[u8]) -> Result<Item, Kind>
     ensures { result ≡ poke_of region.now word.now text.now }
 {
     Ok(Item::Poke {
-        region: ranged(region, 0, 4_294_967_295)? as u32,
-        word: ranged(word, 0, 63)? as u8,
+        region: ranged(region, REGION)? as u32,
+        word: ranged(word, WORD)? as u8,
         mask: mask(text).ok_or(Kind::Number)?,
     })
 }
@@ -159,7 +150,7 @@ fn crash(arguments: &[&[u8]]) -> Result<Item, Kind>
         return Err(Kind::Arguments);
     };
     Ok(Item::Crash {
-        choice: ranged(choice, 0, 1_000_000)? as u32,
+        choice: ranged(choice, CHOICE)? as u32,
     })
 }
 
@@ -170,7 +161,7 @@ fn fuse(arguments: &[&[u8]]) -> Result<Item, Kind>
         return Err(Kind::Arguments);
     };
     Ok(Item::Fuse {
-        passes: ranged(passes, 0, 1_000_000_000)?,
+        passes: ranged(passes, PASSES)?,
     })
 }
 

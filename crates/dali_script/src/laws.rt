@@ -2,7 +2,10 @@
 ghost use Rattle.std.specs.Prelude.{◌≡◌, ◌⊎◌, ℕ, List};
 ghost use Rattle.dali_script.specs.declared.faults.Kind.{Kind};
 ghost use Rattle.dali_script.specs.declared.commands.Command.{Command};
+ghost use Rattle.dali_script.specs.declared.names.Name.{Name};
+ghost use Rattle.dali_script.specs.Forms.{fault_in, forms_of, refused_by};
 ghost use Rattle.dali_script.specs.Grammar.{IsSpelled, IsWrong};
+ghost use Rattle.dali_script.specs.Items.{Text, item_of};
 ghost use Rattle.dali_script.specs.Scripts.{IsRightScript};
 
 /// Bytes spell a script or have a first line that is wrong, and never both; there is one such script, and one such
@@ -18,4 +21,11 @@ pub fn spelled_or_wrong()
 /// clients 1 to 64 each has at most one block in a round, and each command of a block stands where it may.
 pub fn spelled_scripts_are_right()
     ensures { (bytes : List ℕ) (script : List Command) → IsSpelled bytes script → IsRightScript script }
+{}
+
+/// The forms of a command's arguments, of which the reasons of faults tell, are those by which the grammar tests them: it
+/// takes arguments where they are as many as the forms and each has its form. Else the fault is their count, and then
+/// that of the first one that hasn't its form.
+pub fn forms_are_the_grammars()
+    ensures { (name : Name) (arguments : List Text) → fault_in (item_of name arguments) ≡ refused_by (forms_of name) arguments }
 {}

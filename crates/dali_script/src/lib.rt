@@ -32,16 +32,21 @@
 
 mod commands;
 mod faults;
+mod forms;
 mod items;
 pub mod laws;
 mod lines;
 mod names;
 mod parser;
 mod places;
+mod reasons;
 mod texts;
 
 pub use commands::{Block, Blocks, ClientCommand, ClientCommands, Command, Script};
 pub use faults::{Kind, ScriptError};
+pub use forms::{Form, Range};
+pub use lines::{first_line, is_a_comment, put_words};
 pub use names::Name;
 pub use parser::parse;
-pub use texts::number;
+pub use reasons::{Reason, Wanted, explain};
+pub use texts::{number, value};

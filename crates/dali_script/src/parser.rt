@@ -242,6 +242,3 @@ pub fn parse(alloc: Global, bytes: &[u8]) -> Result<Script, ScriptError>
 {
     read(alloc, bytes)
 }
-
-#[cfg(test)]
-mod tests;

@@ -6,7 +6,7 @@ use crate::items::Item;
 use crate::names::Name;
 
 /// A place in a script.
-#[derive(Clone, Copy, Debug, PartialEq, Eq)]
+#[derive(Clone, Copy, PartialEq, Eq)]
 pub enum Place {
     /// Before the first command.
     Start,

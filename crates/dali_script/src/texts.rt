@@ -67,7 +67,8 @@ fn first(text: &[u8]) -> Option<(u8, &[u8])>
     }
 }
 
-/// One to forty bytes; a backslash, `x` and two hexadecimal digits of either case stand for a byte.
+/// The value of one to forty bytes that a text spells: a byte from `!` to `~` other than the backslash stands for itself,
+/// and a backslash, `x` and two hexadecimal digits of either case stand for a byte. None for any other text. Takes no memory.
 pub fn value(text: &[u8]) -> Option<Value>
     ensures { result ≡ value_in text.now }
 {

@@ -14,3 +14,6 @@ returns-in-Unformatted-clause-all g c = rw (c.in-Unformatted.is) (c.write_all-in
 
 pub returns-in-Unformatted-clause-some : goal.returns-in-Unformatted-clause-some
 returns-in-Unformatted-clause-some g c = rw (c.in-Unformatted.is) (c.write_all-in-Unformatted.ensures.some)
+
+pub returns-in-NotLoaded-clause-some : goal.returns-in-NotLoaded-clause-some
+returns-in-NotLoaded-clause-some g c = rw (c.in-NotLoaded.is) (c.write_all-in-NotLoaded.ensures.some)

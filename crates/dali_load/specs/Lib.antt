@@ -1,0 +1,5 @@
+pub mod Rows
+pub mod Reading
+pub mod Reader
+pub mod Scripts
+pub mod Answers
