@@ -64,9 +64,12 @@ def cases() -> Iterator[Case | Sweep]:
         load(ROWS, lines("records 17"), sizes="1 3"), Run("", ROWS, words="show"),
         Run(ROWS, lines("records 17"), words="load 4 9", before=lambda files: {}), Run("", ROWS, words="show", after="same"),
     ])
-    yield Case("one row more than the heap has cells", load("".join(f"{key} v\n" for key in range(8)), lines("too small"), 14))
-    yield Case("one row more than the index has entries", load("".join(f"{key} v\n" for key in range(22)), lines("too small"), 14, sizes="1 4"))
-    yield Case("there is a database", load(ROWS, lines("formatted"), 9, after=lambda files: files[LOG] == INSERTED), f.files(log=INSERTED, anchor=f.anchor()))
+    yield Case("one row more than the heap has cells", load("".join(f"{key} v\n" for key in range(8)), lines("too small"), 14, after={}))
+    yield Case("one row more than the index has entries", load("".join(f"{key} v\n" for key in range(22)), lines("too small"), 14, sizes="1 4", after={}))
+    yield Case("as many as the index has entries", load("".join(f"{key} v\n" for key in range(21)), lines("records 21"), sizes="1 3"))
+    yield Case("as many as the index has entries, with one home", load("".join(f"{2 * key} v\n" for key in range(42)), lines("records 42"), sizes="2 6"))
+    yield Case("no room, where there is a database", load("".join(f"{key} v\n" for key in range(8)), lines("too small"), 14, after="same"), f.files(log=INSERTED, anchor=f.anchor()))
+    yield Case("there is a database", load(ROWS, lines("formatted"), 9, sizes="1 3", after=lambda files: files[LOG] == INSERTED), f.files(log=INSERTED, anchor=f.anchor()))
     yield Case("standard output that fails", load(ROWS, "", 5, sizes="1 3", fail_writes=[0]))
     yield Case("standard output that fails behind the first bytes", load(ROWS, "recor", 5, sizes="1 3", fail_writes=[1]))
     whole = load(ROWS, lines("records 17"), sizes="1 3")

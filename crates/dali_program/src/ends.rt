@@ -135,11 +135,11 @@ fn tell_formatted<E: Print + IsTerminal + Drop>(progress: &Progress<E>, task: Op
     });
 }
 
-// Tells that the database which this task made is to be removed, since it has a part of the records alone.
+// Tells that the database which this task made, if it made one, is to be removed: it may have a part of the records alone.
 fn tell_part<E: Print + IsTerminal + Drop>(progress: &Progress<E>, task: Option<Task>) {
     if let Some(Task::Load { .. }) = task {
         progress.tell(
-            "dali: this folder has a part of the records now: remove its four files before you load again\n",
+            "dali: this folder may have a part of the records now: if it had no database before, remove its four files\n",
         );
     }
 }

@@ -23,7 +23,7 @@ use Rattle.dali_run.specs.declared.status.Status.{Status}
 use Rattle.dali_run.specs.declared.status.Status.TheVariants.{Done, BadWords, BadScript, TooLong, ReadFault, WriteFault, StoreFault, BadStore, Unformatted, Formatted, OutOfMemory, LogFull, TooSmall, NotLoaded}
 use Rattle.dali_run.specs.Ends.{Course, EndedLoad, LoadStops}
 use Rattle.dali_run.specs.Honest.{is_poke, pokes}
-use Rattle.dali_run.specs.Loading.{Disproved, HasRows, Loads, NotFoundRows, NotLoads, StoreStops}
+use Rattle.dali_run.specs.Loading.{Disproved, HasRows, Loads, NothingDone, NotFoundRows, NotLoads, RunsBadly, StoreStops}
 use Rattle.dali_run.specs.Looking.{NotLooked}
 use Rattle.dali_run.specs.Program.{store_of}
 use Rattle.dali_run.specs.Scripts.{RanWhole, StoppedIn, CutIn}
@@ -144,13 +144,21 @@ module _ {V : Type 0} (g : Ghosts V)
         read_on base loads.stored c.store' loads.finds.finds.read
         (ran_own base c.store own (script_of index heap rows) (rows_fit rows has) (script_none index heap rows) (Some []) (Some (expected (length rows))) loads.stored loads.ran)
 
-    not_loads_own : (rows : List Listed) → HasRows c.left rows c.left' → (halt : Halt) → NotLoads g index heap rows halt c.store c.store' → IsOwn g base c.store'
-    not_loads_own rows has halt (inl h) = own_same g base c.store c.store' (sym h.1) own
-    not_loads_own rows has halt (inr (inl stops)) =
+    nothing_own : (rows : List Listed) (halt : Halt) → NothingDone g index heap rows halt c.store c.store' → IsOwn g base c.store'
+    nothing_own rows halts.OutOfMemory same = own_same g base c.store c.store' (sym same) own
+    nothing_own rows halts.TooSmall h = own_same g base c.store c.store' (sym h.1) own
+    nothing_own rows _ h = absurd h
+
+    badly_own : (rows : List Listed) → HasRows c.left rows c.left' → (halt : Halt) → RunsBadly g index heap rows halt c.store c.store' → IsOwn g base c.store'
+    badly_own rows has halt (inl stops) =
         store_stops_own base c.store own (script_of index heap rows) (rows_fit rows has) (script_none index heap rows) halt c.store' stops
-    not_loads_own rows has halt (inr (inr un)) =
+    badly_own rows has halt (inr un) =
         disproved base rows un.lines halt un.stored c.store' un.disproved
         (ran_own base c.store own (script_of index heap rows) (rows_fit rows has) (script_none index heap rows) (Some []) (Some un.lines) un.stored un.ran)
+
+    not_loads_own : (rows : List Listed) → HasRows c.left rows c.left' → (halt : Halt) → NotLoads g index heap rows halt c.store c.store' → IsOwn g base c.store'
+    not_loads_own rows has halt (inl h) = nothing_own rows halt h
+    not_loads_own rows has halt (inr h) = badly_own rows has halt h.1
 
     stop_own : (halt : Halt) (mid : Option (List ℕ)) → LoadStops g index heap halt c mid → IsOwn g base c.store'
     stop_own halt mid stops = not_loads_own stops.0 stops.1 halt stops.2

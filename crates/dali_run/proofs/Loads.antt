@@ -12,7 +12,7 @@ use Rattle.dali_run.specs.declared.halt.Halt.{Halt}
 use Rattle.dali_run.specs.declared.halt.Halt.TheVariants.{BadWords, BadScript, TooLong, ReadFault, WriteFault, StoreFault, BadStore, Unformatted, Formatted, LogFull, TooSmall, NotLoaded, OutOfMemory}
 use Rattle.dali_run.specs.Ends.{EndedLoad, course}
 use Rattle.dali_run.specs.Halts.{status_in, status_of}
-use Rattle.dali_run.specs.Loading.{Disproved, HasRows, Loads, NoRows, NotLoads, StoreStops, count_text}
+use Rattle.dali_run.specs.Loading.{Disproved, HasRows, Loads, NoRows, NothingDone, NotLoads, RunsBadly, StoreStops, count_text}
 use Rattle.dali_run.specs.Scripts.{StoppedIn, CutIn}
 use Rattle.dali_run.specs.Stops.{ScriptStops}
 
@@ -56,8 +56,13 @@ module _ {V : Type 0} (g : Ghosts V) (index heap : ℕ) (rows : List Listed) whe
   Never WriteFault = Unit {0}
   Never _ = ⊥
 
-  never_memory : (halt : Halt) → Never halt → halt ≡ OutOfMemory → ⊥
-  never_memory halt of same = subst Never same of
+  never_undone : (halt : Halt) (start end : V) → Never halt → NothingDone g index heap rows halt start end → ⊥
+  never_undone BadWords start end of h = h
+  never_undone (BadScript line kind) start end of h = h
+  never_undone TooLong start end of h = h
+  never_undone ReadFault start end of h = h
+  never_undone WriteFault start end of h = h
+  never_undone _ start end of h = of
 
   never_stopped : (halt : Halt) (start end : V) → Never halt → StoreStops g 268435456 false halt start (script_of index heap rows) end → ⊥
   never_stopped BadWords start end of s = s.1.fails
@@ -80,10 +85,13 @@ module _ {V : Type 0} (g : Ghosts V) (index heap : ℕ) (rows : List Listed) whe
   never_disproved WriteFault lines old new of (inr h) = h.1
   never_disproved _ lines old new of h = of
 
+  never_badly : (halt : Halt) (start end : V) → Never halt → RunsBadly g index heap rows halt start end → ⊥
+  never_badly halt start end of (inl stops) = never_stopped halt start end of stops
+  never_badly halt start end of (inr un) = never_disproved halt un.lines un.stored end of un.disproved
+
   never : (halt : Halt) (start end : V) → Never halt → NotLoads g index heap rows halt start end → ⊥
-  never halt start end of (inl h) = never_memory halt of h.0
-  never halt start end of (inr (inl stops)) = never_stopped halt start end of stops
-  never halt start end of (inr (inr un)) = never_disproved halt un.lines un.stored end of un.disproved
+  never halt start end of (inl h) = never_undone halt start end of h
+  never halt start end of (inr h) = never_badly halt start end of h.1
 
 module _ {V S K : Type 0} (g : Ghosts V) (s : SourceGhosts S) (k : SinkGhosts K) (index heap : ℕ) (source source' : S) where
   -- ---- no rows were read

@@ -8,10 +8,13 @@
 --     FindsRows rows old new           the store was only read, its count stayed, and a restart would find just these rows
 --     NotFoundRows rows halt old new   a restart would find other rows, or the store wasn't inspected
 --     Disproved rows lines halt old new     either of these two
---     Loads index heap rows start end  the script was run, its lines say that all went well, and then just these rows were found
---     NotLoads index heap rows halt start end    why not
+--     HasRoom index heap rows          the heap has a cell for each row, and the index an entry
+--     NothingDone index heap rows halt start end    the store is as it was: no memory for the script, or no room for the rows
+--     Loads index heap rows start end  there was room, the script was run, its lines say that all went well, and then just these rows were found
+--     RunsBadly index heap rows halt start end      the script was run, and it or what came of it wasn't right
+--     NotLoads index heap rows halt start end    why not: nothing was done, or there was room and the script was run
 --     count_text rows                  what is written where they are loaded
-use Rattle.std.specs.Prelude.{◌≡◌, ◌⊎◌, ℕ, ◌≤◌, Bool, false, List, [], ◌∷◌, length, Option, Some}
+use Rattle.std.specs.Prelude.{◌≡◌, ◌⊎◌, ℕ, ◌≤◌, ◌*◌, Bool, false, List, [], ◌∷◌, length, Option, Some}
 use Rattle.dali_inspect.specs.declared.inspecting.Inspection.{Inspection}
 use Rattle.dali_listing.specs.Listing.{in_memory, IsListing}
 use Rattle.dali_listing.specs.declared.Listed.{Listed}
@@ -55,6 +58,10 @@ NoRows s old new _ = ⊥
 
 abbrev pub IsLoadable : (index heap : ℕ) → List Listed → Type 0
 IsLoadable index heap rows = IsRightScript (script_of index heap rows)
+
+-- seven cells a heap region, and 21 entries an index region
+abbrev pub HasRoom : (index heap : ℕ) → List Listed → Type 0
+HasRoom index heap rows = (length rows ≤ 7 * heap) × (length rows ≤ 21 * index)
 
 -- ---- the lines
 abbrev pub Refuses : ℕ → List ℕ → Halt → Type 0
@@ -104,6 +111,7 @@ module _ {V : Type 0} (g : Ghosts V) where
     RunsLoad start lines end = RanWhole g 268435456 false start (script_of index heap rows) (Some []) (Some lines) end
 
     pub record Loads (start end : V) : Type 0 where
+      pub room : HasRoom index heap rows
       pub stored : V
       pub ran : RunsLoad start (expected (length rows)) stored
       pub finds : FindsRows rows stored end
@@ -114,7 +122,16 @@ module _ {V : Type 0} (g : Ghosts V) where
       pub ran : RunsLoad start lines stored
       pub disproved : Disproved rows lines halt stored end
 
-    -- nothing was done; a command failed; or the run to its end, or what came of it, wasn't right
+    abbrev pub NothingDone : Halt → V → V → Type 0
+    NothingDone OutOfMemory start end = end ≡ start
+    NothingDone TooSmall start end = (HasRoom index heap rows → ⊥) × (end ≡ start)
+    NothingDone _ start end = ⊥
+
+    -- a command failed; or the run to its end, or what came of it, wasn't right
+    abbrev pub RunsBadly : Halt → V → V → Type 0
+    RunsBadly halt start end =
+        StoreStops g 268435456 false halt start (script_of index heap rows) end ⊎ Unproved halt start end
+
+    -- nothing was done; or the script was run, which is so only where there is room
     abbrev pub NotLoads : Halt → V → V → Type 0
-    NotLoads halt start end =
-        ((halt ≡ OutOfMemory) × (end ≡ start)) ⊎ (StoreStops g 268435456 false halt start (script_of index heap rows) end ⊎ Unproved halt start end)
+    NotLoads halt start end = NothingDone halt start end ⊎ (HasRoom index heap rows × RunsBadly halt start end)

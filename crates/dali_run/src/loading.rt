@@ -1,17 +1,17 @@
 //! A new database that holds the rows of the source.
-ghost use Rattle.std.specs.Prelude.{◌≡◌, ◌≤◌, List, ℕ, Some, [], false, IfErr, IfOk, IsErrOf, OnErr, OnOk, length};
+ghost use Rattle.std.specs.Prelude.{◌≡◌, ◌≤◌, List, ℕ, Some, [], true, false, ◌↔◌, IfErr, IfOk, IsErrOf, OnErr, OnOk, length};
 ghost use Rattle.dali_load.specs.Answers.{expected};
 ghost use Rattle.dali_load.specs.Scripts.{script_of as script_for};
 ghost use Rattle.dali_streams.specs.Streams.{Appends};
 ghost use Rattle.dali_run.specs.Ends.{EndedLoad, course};
 ghost use Rattle.dali_run.specs.Halts.{status_in};
-ghost use Rattle.dali_run.specs.Loading.{Disproved, FindsRows, HasRows, IsLoadable, Loads, NoRows, NotFoundRows, NotLoads, Refuses, StoreStops};
+ghost use Rattle.dali_run.specs.Loading.{Disproved, FindsRows, HasRoom, HasRows, IsLoadable, Loads, NoRows, NotFoundRows, NotLoads, Refuses, StoreStops};
 ghost use Rattle.dali_run.specs.Scripts.{RanWhole};
 ghost use Rattle.dali_run.specs.Told.{AreFit};
 ghost use Rattle.dali_run.specs.declared.status.Status.TheVariants as statuses;
 
 use crate::halt::Halt;
-use crate::looking::look;
+use crate::looking::{CELLS, ENTRIES, look};
 use crate::scripts::run_script;
 use crate::setting::Setting;
 use crate::texts::{text_of_line, write_whole};
@@ -113,7 +113,17 @@ fn proved<V: Store>(
     }
 }
 
-// The rows are stored, and looked for again.
+// Whether a heap has a cell for each row, and an index an entry.
+fn has_room(index: u32, heap: u32, rows: &[Listed]) -> bool
+    requires index { index ≤ 32768 }
+    requires heap { heap ≤ 65536 }
+    ensures { result ≡ true ↔ HasRoom index heap rows.now }
+{
+    let count = rows.len() as u64;
+    count <= CELLS * u64::from(heap) && count <= ENTRIES * u64::from(index)
+}
+
+// The rows are stored, and looked for again; where they have no room, nothing is done.
 fn store_rows<V: Store, G: Gate>(
     setting: &Setting<'_, G>,
     index: u32,
@@ -121,12 +131,17 @@ fn store_rows<V: Store, G: Gate>(
     rows: &[Listed],
     store: V,
 ) -> (V, Result<(), Halt>)
+    requires index { index ≤ 32768 }
+    requires heap { heap ≤ 65536 }
     requires loadable { IsLoadable index heap rows.now }
     requires limit { setting.now.limit ≡ 268435456 }
     requires unchecked { setting.now.precheck ≡ false }
     ensures done { OnOk result.1 (Loads V.Store index heap rows.now store result.0) }
     ensures stops { IfErr result.1 (λ halt. NotLoads V.Store index heap rows.now halt store result.0) }
 {
+    if !has_room(index, heap, rows) {
+        return (store, Err(Halt::TooSmall));
+    }
     let Ok(script) = script_of(setting.alloc, index, heap, rows) else {
         return (store, Err(Halt::OutOfMemory));
     };
@@ -139,7 +154,8 @@ fn store_rows<V: Store, G: Gate>(
 
 /// Makes a database of so many regions over the store, and stores there the rows that the source has, in transactions of
 /// seven, with a checkpoint behind them. They are read back from the store and compared; only then is their number
-/// written. The last line isn't written yet.
+/// written. The last line isn't written yet. Where they are more than the heap has cells, or the index entries, it is
+/// `TooSmall` at once, and the store is as it was; it is `TooSmall` too where the run finds heap or index full.
 pub fn load<S: Source, K: Sink, V: Store, G: Gate>(
     setting: &Setting<'_, G>,
     index: u32,

@@ -15,9 +15,9 @@ use dali_streams::Sink;
 use std::alloc::{AllocError, Global};
 
 /// How many cells a heap region has, and how many entries an index region.
-const CELLS: u64 = 7;
+pub(crate) const CELLS: u64 = 7;
 
-const ENTRIES: u64 = 21;
+pub(crate) const ENTRIES: u64 = 21;
 
 /// How many bytes the log's records may have where the words don't say it.
 const LOG_LIMIT: u64 = 67_108_864;
