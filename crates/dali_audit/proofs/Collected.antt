@@ -6,7 +6,7 @@ use Rattle.std.specs.List.{list_all, AllByRecursion}
 use Rattle.dali_lists.proofs.Options.{some_same}
 use Rattle.dali_record.specs.Damage.{has}
 use Rattle.dali_record.specs.Spelling.{ascends, CanBeSpelled}
-use Rattle.dali_system.specs.Steps.{audit_record}
+use Rattle.dali_runs.specs.Steps.{audit_record}
 use Rattle.dali_audit.specs.declared.audit.Finding.{Finding}
 use Rattle.dali_audit.specs.declared.audit.Finding.TheVariants.{Waiting, Clean, Damaged}
 use Rattle.dali_audit.specs.Findings.{damaged, damaged_from, is_damaged}

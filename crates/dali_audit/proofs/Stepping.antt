@@ -8,9 +8,9 @@ use Rattle.dali_lists.proofs.Lists.{set_cases, get_within as found}
 use Rattle.dali_geometry.specs.Places.{regions}
 use Rattle.dali_record.specs.Damage.{has}
 use Rattle.dali_region.specs.State.{RegionState}
-use Rattle.dali_system.specs.Audits.{IsAuditing, MayLogEnd}
-use Rattle.dali_system.specs.Passes.{Pass, is_pass_of, is_find_of, has_passed, has_found, IsVerdict}
-use Rattle.dali_system.specs.Courses.{Moment, IsStepAt, AuditEnds, Passes, pass_now}
+use Rattle.dali_runs.specs.Audits.{IsAuditing, MayLogEnd}
+use Rattle.dali_runs.specs.Passes.{Pass, is_pass_of, is_find_of, has_passed, has_found, IsVerdict}
+use Rattle.dali_runs.specs.Courses.{Moment, IsStepAt, AuditEnds, Passes, pass_now}
 use Rattle.dali_audit.specs.declared.audit.Finding.{Finding}
 use Rattle.dali_audit.specs.declared.audit.Finding.TheVariants.{Waiting, Clean, Damaged}
 use Rattle.dali_audit.specs.Findings.{is_passed, is_damaged, finding_of, damaged, AllPassed}

@@ -7,12 +7,12 @@ use Rattle.std.specs.Prelude.{◌≡◌, ◌<◌, ◌^◌, ◌++◌, ◌∷◌, 
 use Rattle.dali_geometry.specs.Places.{regions}
 use Rattle.dali_record.specs.declared.records.Record.TheVariants.{AuditBegin}
 use Rattle.dali_region.specs.State.{RegionState, checked}
-use Rattle.dali_system.specs.Steps.{audit_begun, audit_ended, audit_record}
-use Rattle.dali_system.specs.Keeps.{with_system, with_region}
-use Rattle.dali_system.specs.Audits.{IsAuditing}
-use Rattle.dali_system.specs.Passes.{Pass, has_passed, has_found, audits_with}
-use Rattle.dali_system.specs.Courses.{Moment, IsStepAt, AuditBegins, AuditEnds, Passes, pass_now}
-use Rattle.dali_core.specs.Audits.{audit_refusal}
+use Rattle.dali_runs.specs.Steps.{audit_begun, audit_ended, audit_record}
+use Rattle.dali_runs.specs.Keeps.{with_system, with_region}
+use Rattle.dali_runs.specs.Audits.{IsAuditing}
+use Rattle.dali_runs.specs.Passes.{Pass, has_passed, has_found, audits_with}
+use Rattle.dali_runs.specs.Courses.{Moment, IsStepAt, AuditBegins, AuditEnds, Passes, pass_now}
+use Rattle.dali_system.specs.Audits.{audit_refusal}
 use Rattle.dali_audit.specs.declared.audit.Finding.{Finding}
 use Rattle.dali_audit.specs.declared.audit.Finding.TheVariants.{Waiting}
 use Rattle.dali_audit.specs.Findings.{is_passed, is_damaged, finding_of, damaged, AllPassed}

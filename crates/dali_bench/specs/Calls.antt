@@ -3,9 +3,9 @@
 use Rattle.std.specs.Prelude.{◌≡◌, ℕ, List, Some, length}
 use Rattle.dali_geometry.specs.Places.{regions}
 use Rattle.dali_region.specs.State.{RegionState}
-use Rattle.dali_system.specs.State.{SystemState, state_of}
+use Rattle.dali_runs.specs.State.{SystemState, state_of}
 use Rattle.dali_att.specs.declared.state.State.TheVariants.{Live}
-use Rattle.dali_single.specs.Single.{AreCovered}
+use Rattle.dali_calls.specs.Single.Single.{AreCovered}
 
 pub record MayServe (rs : List RegionState) (y : SystemState) (t : ℕ) : Type 0 where
   pub whole : length rs ≡ regions y.sizes

@@ -6,11 +6,11 @@ ghost use Rattle.dali_bench.specs.Calls.{MayServe};
 use crate::keys::{mix_bytes, scattered};
 use crate::timing::Timing;
 use anyhow::{Context, Result, ensure};
-use dali_core::System;
+use dali_calls::single::{commit, perform, settle};
 use dali_geometry::Geometry;
 use dali_record::{Answer, Call};
 use dali_region::Region;
-use dali_single::{commit, perform, settle};
+use dali_system::System;
 use dali_words::Value;
 use std::alloc::{AllocError, Global};
 use std::rt::Clock;
@@ -126,7 +126,7 @@ pub fn call_all(
 }
 
 /// Begins a transaction, where these are the system's regions.
-#[tactic(auto, using(dali_single::proofs::Guards::begun_lives, dali_single::proofs::Guards::begun_covered))]
+#[tactic(auto, using(dali_calls::proofs::SingleLemmas::Guards::begun_lives, dali_calls::proofs::SingleLemmas::Guards::begun_covered))]
 pub fn begin(regions: &[Region], system: &mut System) -> Result<u64>
     ensures { IfOk result (λ txn. MayServe regions.now system.new.state txn) }
 {

@@ -2,12 +2,12 @@
 use crate::calls::{CALLS, Kind, LIMIT, begin, call_all, sizes_for, values};
 use crate::timing::Timing;
 use anyhow::{Result, ensure};
-use dali_ends::commit as commit_durably;
+use dali_core::Core;
 use dali_geometry::Geometry;
 use dali_memstore::MemoryStore;
 use dali_restart::format;
 use dali_store::{FileName, Store};
-use dali_whole::Core;
+use dali_transactions::commit as commit_durably;
 use dali_words::Value;
 use std::alloc::Global;
 use std::rt::Clock;

@@ -16,9 +16,9 @@ use Rattle.dali_record.specs.declared.records.Record.TheVariants.{Done}
 use Rattle.dali_record.specs.Calls.{Fresh as FreshCall, answers, takes_back, same_call, same_answer}
 use Rattle.dali_record.specs.Legal.{Working, Onward, is_level, is_onward, is_unwinding, is_none_left, is_answer}
 use Rattle.dali_record.proofs.Moves.{none_left}
-use Rattle.dali_facts.specs.Plans.{AtWork}
-use Rattle.dali_facts.proofs.Plans.{plan_answers}
-use Rattle.dali_core.specs.declared.want.Want.TheVariants.{Done as AnswerIsNext}
+use Rattle.dali_runs.specs.Facts.Plans.{AtWork}
+use Rattle.dali_runs.proofs.FactsLemmas.Plans.{plan_answers}
+use Rattle.dali_system.specs.declared.want.Want.TheVariants.{Done as AnswerIsNext}
 use Rattle.dali_calls.specs.declared.stage.Stage.{Stage}
 use Rattle.dali_calls.specs.declared.stage.Stage.TheVariants.{Fresh, Walking, Nowhere, Somewhere, Storing, Adding, Removing, Finished}
 use Rattle.dali_calls.specs.declared.plan.Phase.{Phase}

@@ -5,9 +5,9 @@ use Rattle.dali_lists.proofs.Lists.{set_cases}
 use Rattle.dali_lists.proofs.Tests.{left_false}
 use Rattle.dali_region.specs.declared.Side.TheVariants.{A, B}
 use Rattle.dali_region.specs.State.{RegionState, touched, taken_back, wrote}
-use Rattle.dali_system.specs.State.{SystemState}
-use Rattle.dali_system.specs.Regions.{RegionStep, Latch, NoteReads, Update, TakeBack, Poke, Check, Die, Clean, region_after}
-use Rattle.dali_core.specs.declared.take_back.TakeBack.{TakeBack as Back}
+use Rattle.dali_runs.specs.State.{SystemState}
+use Rattle.dali_runs.specs.Regions.{RegionStep, Latch, NoteReads, Update, TakeBack, Poke, Check, Die, Clean, region_after}
+use Rattle.dali_system.specs.declared.take_back.TakeBack.{TakeBack as Back}
 use Rattle.dali_calls.specs.Flags.{FlagStays, FlagsStay}
 use Rattle.dali_calls.specs.Operating.{IsOwn, Goes, IsTakenBack, Undone}
 

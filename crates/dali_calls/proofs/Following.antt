@@ -25,9 +25,9 @@ use Rattle.dali_record.specs.Log.{last_of, drop_last, undo_added, undos_of, undo
 use Rattle.dali_record.specs.Calls.{Progress, Fresh as FreshCall, Walking as WalkingCall, Nowhere as NowhereCall, Somewhere as SomewhereCall, Storing as StoringCall, Adding as AddingCall, Removing as RemovingCall, Finished as FinishedCall, follow, look_next, put_next, store_next, add_next, cell_next, entry_next, after_look, when, on_item}
 use Rattle.dali_record.specs.Legal.{Working, Way, Onward, TakingBack, Unwinding, way_back, is_level, is_onward, is_unwinding, is_none_left}
 use Rattle.dali_record.proofs.Tracks.{active-undos}
-use Rattle.dali_facts.specs.Plans.{AtWork, IsPlan}
-use Rattle.dali_facts.proofs.Plans.{plan_goes_on, plan_starts, take_back_goes_on}
-use Rattle.dali_core.specs.declared.want.Want.TheVariants.{Nothing}
+use Rattle.dali_runs.specs.Facts.Plans.{AtWork, IsPlan}
+use Rattle.dali_runs.proofs.FactsLemmas.Plans.{plan_goes_on, plan_starts, take_back_goes_on}
+use Rattle.dali_system.specs.declared.want.Want.TheVariants.{Nothing}
 use Rattle.dali_calls.specs.declared.stage.Stage.{Stage}
 use Rattle.dali_calls.specs.declared.stage.Stage.TheVariants.{Fresh, Walking, Nowhere, Somewhere, Storing, Adding, Removing, Finished}
 use Rattle.dali_calls.specs.declared.plan.Phase.{Phase}

@@ -12,3 +12,5 @@ pub mod Operating
 pub mod Undoing
 pub mod Rows
 pub mod Others
+pub mod SingleLemmas
+pub mod StepwiseLemmas

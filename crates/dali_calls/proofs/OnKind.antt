@@ -22,7 +22,7 @@ use Rattle.dali_record.specs.Operations.{undo_op}
 use Rattle.dali_record.specs.Log.{drop_last, undo_added}
 use Rattle.dali_record.specs.Legal.{on_kind}
 use Rattle.dali_record.specs.Spelling.{IsOperation, IsUndo, MayBeUndo, IsBlock, is_forward, is_back, undoes, undoes_add, undoes_kill_entry, undoes_put, undoes_change, undoes_kill_cell, is_within, is_outcome_of}
-use Rattle.dali_facts.proofs.Undos.{all_dropped}
+use Rattle.dali_runs.proofs.FactsLemmas.Undos.{all_dropped}
 use Rattle.dali_calls.specs.declared.stage.Stage.{Stage}
 use Rattle.dali_calls.specs.declared.stage.Stage.TheVariants.{Fresh, Walking, Nowhere, Somewhere, Storing, Adding, Removing, Finished}
 use Rattle.dali_calls.specs.declared.plan.Phase.{Phase}

@@ -6,12 +6,12 @@ use Rattle.dali_lists.proofs.Lists.{get_set, get_set_other}
 use Rattle.dali_record.specs.declared.operations.Block.{Block}
 use Rattle.dali_region.specs.declared.Hold.{Hold}
 use Rattle.dali_region.specs.State.{RegionState, IsLive, map_hold, writing, latched, with_reads}
-use Rattle.dali_system.specs.State.{SystemState, state_of, hold_in}
-use Rattle.dali_system.specs.Regions.{RegionStep, Latch, NoteReads, Update, TakeBack, Poke, Check, Die, Clean, IsOpen, MayChange, region_after, is_alive, IsAlone}
-use Rattle.dali_system.specs.Courses.{Step, OnRegion}
-use Rattle.dali_core.specs.declared.operation.Operation.{Operation}
-use Rattle.dali_core.specs.UnderWay.{IsUnderWay, OneIsUnderWay, IsUpdated}
-use Rattle.dali_core.proofs.UnderWays.{IsSameWay}
+use Rattle.dali_runs.specs.State.{SystemState, state_of, hold_in}
+use Rattle.dali_runs.specs.Regions.{RegionStep, Latch, NoteReads, Update, TakeBack, Poke, Check, Die, Clean, IsOpen, MayChange, region_after, is_alive, IsAlone}
+use Rattle.dali_runs.specs.Courses.{Step, OnRegion}
+use Rattle.dali_system.specs.declared.operation.Operation.{Operation}
+use Rattle.dali_system.specs.UnderWay.{IsUnderWay, OneIsUnderWay, IsUpdated}
+use Rattle.dali_system.proofs.UnderWays.{IsSameWay}
 use Rattle.dali_calls.specs.Operating.{IsHeldBy, IsOwn, Goes, AreUpdates, AreWritten}
 
 -- how many words are left

@@ -7,11 +7,11 @@ use Rattle.dali_lists.proofs.Lists.{get_set, get_set_other}
 use Rattle.dali_region.specs.State.{RegionState}
 use Rattle.dali_att.proofs.Changes.{get-ended}
 use Rattle.dali_locks.proofs.Kept.{locks_without_at}
-use Rattle.dali_system.specs.State.{SystemState, hold_in}
-use Rattle.dali_system.specs.Steps.{ended_logged}
-use Rattle.dali_core.specs.Served.{Served}
-use Rattle.dali_core.specs.Promised.{Promised, promised_to}
-use Rattle.dali_core.proofs.Totals.{others_stay}
+use Rattle.dali_runs.specs.State.{SystemState, hold_in}
+use Rattle.dali_runs.specs.Steps.{ended_logged}
+use Rattle.dali_system.specs.Served.{Served}
+use Rattle.dali_system.specs.Promised.{Promised, promised_to}
+use Rattle.dali_system.proofs.Totals.{others_stay}
 use Rattle.dali_calls.specs.Others.{HoldStays, HoldsClear, PromisesStay, IsGone}
 
 -- one region is held by nobody any more

@@ -7,7 +7,7 @@ use Rattle.dali_lists.proofs.Numbers.{eqb-self}
 use Rattle.dali_record.specs.declared.operations.Pending.{Pending}
 use Rattle.dali_att.specs.Table.{Table, with_row}
 use Rattle.dali_att.proofs.Changes.{get-with_row}
-use Rattle.dali_system.specs.State.{TxnRow}
+use Rattle.dali_runs.specs.State.{TxnRow}
 
 abbrev pub undos_in : Option TxnRow → List Pending
 undos_in row = option_map_or (λ (r : TxnRow). r.undos) row []

@@ -18,13 +18,13 @@ use Rattle.dali_record.specs.Spelling.{Is64, IsAnswer, is_answer_of}
 use Rattle.dali_region.specs.State.{RegionState}
 use Rattle.dali_locks.specs.declared.mode.Mode.{Mode}
 use Rattle.dali_locks.specs.declared.mode.Mode.TheVariants.{Shared, Exclusive}
-use Rattle.dali_system.specs.State.{lock_of}
-use Rattle.dali_system.specs.Run.{covers}
-use Rattle.dali_system.specs.Regions.{IsOpen}
+use Rattle.dali_runs.specs.State.{lock_of}
+use Rattle.dali_runs.specs.Run.{covers}
+use Rattle.dali_runs.specs.Regions.{IsOpen}
 use Rattle.dali_att.specs.declared.state.State.{State}
-use Rattle.dali_system.specs.Keeps.{may_log_in}
-use Rattle.dali_facts.specs.Plans.{AtWork}
-use Rattle.dali_core.specs.declared.operation.Operation.{Operation}
+use Rattle.dali_runs.specs.Keeps.{may_log_in}
+use Rattle.dali_runs.specs.Facts.Plans.{AtWork}
+use Rattle.dali_system.specs.declared.operation.Operation.{Operation}
 use Rattle.dali_calls.specs.declared.stage.Stage.{Stage}
 use Rattle.dali_calls.specs.declared.stage.Stage.TheVariants.{Fresh, Walking, Nowhere, Somewhere, Storing, Adding, Removing, Finished}
 use Rattle.dali_calls.specs.Steps.{call_key, answer_of, is_get, IsAt}

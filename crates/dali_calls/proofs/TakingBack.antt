@@ -8,9 +8,9 @@ use Rattle.dali_record.specs.Legal.{on_kind}
 use Rattle.dali_record.specs.Spelling.{is_back}
 use Rattle.dali_att.specs.declared.state.State.{State}
 use Rattle.dali_att.specs.declared.state.State.TheVariants.{Live, Dead, Cleaning, Committed}
-use Rattle.dali_system.specs.State.{lock_of}
-use Rattle.dali_system.specs.Run.{covers}
-use Rattle.dali_facts.proofs.Plans.{take_back_goes_on}
+use Rattle.dali_runs.specs.State.{lock_of}
+use Rattle.dali_runs.specs.Run.{covers}
+use Rattle.dali_runs.proofs.FactsLemmas.Plans.{take_back_goes_on}
 use Rattle.dali_calls.specs.TakingBack.{is_claimed, TakeBackIsStep}
 use Rattle.dali_calls.proofs.Stepping.{covers_all, state_there}
 use Rattle.dali_calls.proofs.OnKind.{undo_back}

@@ -7,16 +7,16 @@ use Rattle.dali_record.specs.declared.operations.Pending.{Pending}
 use Rattle.dali_record.specs.Log.{last_of, drop_last}
 use Rattle.dali_region.specs.State.{RegionState, touched, taken_back}
 use Rattle.dali_att.specs.Table.{undos_at, last_of as table_last}
-use Rattle.dali_system.specs.Steps.{back_logged}
-use Rattle.dali_system.specs.Regions.{RegionStep, TakeBack as TakesRegionBack, IsOpen}
-use Rattle.dali_system.proofs.Tables.{last_same}
-use Rattle.dali_core.specs.declared.operation.Operation.{Operation}
-use Rattle.dali_core.specs.declared.take_back.TakeBack.{TakeBack}
-use Rattle.dali_core.specs.declared.want.Want.TheVariants.{Region}
-use Rattle.dali_core.specs.TakenBack.{next_undo, want_of, IsUndoBlock, IsUndoOn}
-use Rattle.dali_core.specs.Served.{Served}
-use Rattle.dali_core.specs.UnderWay.{OneIsUnderWay}
-use Rattle.dali_core.proofs.UnderWays.{IsSameWay, IsMadeBack}
+use Rattle.dali_runs.specs.Steps.{back_logged}
+use Rattle.dali_runs.specs.Regions.{RegionStep, TakeBack as TakesRegionBack, IsOpen}
+use Rattle.dali_runs.proofs.Tables.{last_same}
+use Rattle.dali_system.specs.declared.operation.Operation.{Operation}
+use Rattle.dali_system.specs.declared.take_back.TakeBack.{TakeBack}
+use Rattle.dali_system.specs.declared.want.Want.TheVariants.{Region}
+use Rattle.dali_system.specs.TakenBack.{next_undo, want_of, IsUndoBlock, IsUndoOn}
+use Rattle.dali_system.specs.Served.{Served}
+use Rattle.dali_system.specs.UnderWay.{OneIsUnderWay}
+use Rattle.dali_system.proofs.UnderWays.{IsSameWay, IsMadeBack}
 use Rattle.dali_calls.specs.Operating.{IsHeldBy, AreWritten, Goes, IsTakenBack, Undone}
 use Rattle.dali_calls.proofs.Operating.{opened_by, goes_on, held_open}
 

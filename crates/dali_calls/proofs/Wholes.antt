@@ -17,7 +17,7 @@ use Rattle.dali_record.specs.declared.records.Call.TheVariants.{Insert, Update, 
 use Rattle.dali_geometry.specs.Places.{home, is_place, region_at, cell_at}
 use Rattle.dali_record.specs.Operations.{changes}
 use Rattle.dali_record.specs.Blocks.{made, changes_item}
-use Rattle.dali_core.specs.declared.operation.Operation.{Operation}
+use Rattle.dali_system.specs.declared.operation.Operation.{Operation}
 use Rattle.dali_calls.specs.declared.stage.Stage.{Stage}
 use Rattle.dali_calls.specs.declared.stage.Stage.TheVariants.{Fresh, Walking, Nowhere, Somewhere, Storing, Adding, Removing, Finished}
 use Rattle.dali_calls.specs.declared.plan.Phase.{Phase}

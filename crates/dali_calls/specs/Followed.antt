@@ -17,15 +17,15 @@ use Rattle.dali_record.specs.declared.records.Record.TheVariants.{Forward, Done,
 use Rattle.dali_record.specs.Legal.{Working, txn_state, concerns, is_level, is_onward, is_unwinding}
 use Rattle.dali_region.specs.State.{RegionState}
 use Rattle.dali_att.specs.declared.state.State.TheVariants.{Live}
-use Rattle.dali_system.specs.State.{SystemState, CoreState, state_of, lock_of}
-use Rattle.dali_system.specs.Run.{covers}
-use Rattle.dali_system.specs.Steps.{op_logged, back_logged, done_logged}
-use Rattle.dali_system.specs.Regions.{IsOpen}
-use Rattle.dali_system.specs.Keeps.{HasRoom, with_system, with_touched}
-use Rattle.dali_system.specs.Courses.{Operates, TakesBack, Answers, IsStep}
-use Rattle.dali_facts.specs.Plans.{AtWork}
-use Rattle.dali_core.specs.declared.want.Want.TheVariants.{Done as AnswerIsNext, Nothing}
-use Rattle.dali_core.specs.declared.operation.Operation.{Operation}
+use Rattle.dali_runs.specs.State.{SystemState, CoreState, state_of, lock_of}
+use Rattle.dali_runs.specs.Run.{covers}
+use Rattle.dali_runs.specs.Steps.{op_logged, back_logged, done_logged}
+use Rattle.dali_runs.specs.Regions.{IsOpen}
+use Rattle.dali_runs.specs.Keeps.{HasRoom, with_system, with_touched}
+use Rattle.dali_runs.specs.Courses.{Operates, TakesBack, Answers, IsStep}
+use Rattle.dali_runs.specs.Facts.Plans.{AtWork}
+use Rattle.dali_system.specs.declared.want.Want.TheVariants.{Done as AnswerIsNext, Nothing}
+use Rattle.dali_system.specs.declared.operation.Operation.{Operation}
 use Rattle.dali_calls.specs.declared.stage.Stage.TheVariants.{Fresh}
 use Rattle.dali_calls.specs.declared.plan.Phase.TheVariants.{Calling}
 use Rattle.dali_calls.specs.Steps.{call_key, progress_of, answer_of, is_fresh, is_get, IsBlockOf}

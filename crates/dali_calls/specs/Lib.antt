@@ -7,3 +7,5 @@ pub mod TakingBack
 pub mod Flags
 pub mod Operating
 pub mod Others
+pub mod Single
+pub mod Stepwise

@@ -9,11 +9,11 @@ use Rattle.std.specs.Prelude.{◌≡◌, ℕ, false, List, [], ◌∷◌, None, 
 use Rattle.dali_record.specs.declared.operations.Block.{Block}
 use Rattle.dali_region.specs.State.{RegionState, touched}
 use Rattle.dali_att.specs.Table.{undos_at}
-use Rattle.dali_system.specs.State.{SystemState}
-use Rattle.dali_system.specs.Steps.{back_logged}
-use Rattle.dali_system.specs.Regions.{RegionStep, Latch, NoteReads, Update, TakeBack as TakesBack, IsOpen, MayChange, region_after}
-use Rattle.dali_core.specs.declared.take_back.TakeBack.{TakeBack}
-use Rattle.dali_core.specs.TakenBack.{next_undo, IsUndoBlock, IsUndoOn}
+use Rattle.dali_runs.specs.State.{SystemState}
+use Rattle.dali_runs.specs.Steps.{back_logged}
+use Rattle.dali_runs.specs.Regions.{RegionStep, Latch, NoteReads, Update, TakeBack as TakesBack, IsOpen, MayChange, region_after}
+use Rattle.dali_system.specs.declared.take_back.TakeBack.{TakeBack}
+use Rattle.dali_system.specs.TakenBack.{next_undo, IsUndoBlock, IsUndoOn}
 
 abbrev pub IsHeldBy : ℕ → RegionState → Type 0
 IsHeldBy t g = IsSomeAnd g.hold (λ h. (h.txn ≡ t) × (h.dead ≡ false))

@@ -6,11 +6,11 @@
 --     is_apart t x             the step x isn't one of t: it is of another transaction, or of none
 use Rattle.std.specs.Prelude.{◌≡◌, ◌==◌, ◌⊎◌, ℕ, Bool, true, false, not, List, None, slice_get}
 use Rattle.dali_region.specs.State.{RegionState}
-use Rattle.dali_system.specs.State.{SystemState, row_of, lock_of, hold_in}
-use Rattle.dali_system.specs.Regions.{RegionStep, Latch}
-use Rattle.dali_system.specs.Courses.{Step, Operates, TakesBack, Frees, Answers, Commits, Ends, Locks, Refuses, OnRegion, Dies, Claims, GivesBack}
-use Rattle.dali_core.specs.Served.{Served}
-use Rattle.dali_core.specs.Promised.{promised_to}
+use Rattle.dali_runs.specs.State.{SystemState, row_of, lock_of, hold_in}
+use Rattle.dali_runs.specs.Regions.{RegionStep, Latch}
+use Rattle.dali_runs.specs.Courses.{Step, Operates, TakesBack, Frees, Answers, Commits, Ends, Locks, Refuses, OnRegion, Dies, Claims, GivesBack}
+use Rattle.dali_system.specs.Served.{Served}
+use Rattle.dali_system.specs.Promised.{promised_to}
 
 abbrev pub HoldStays : List RegionState → List RegionState → ℕ → Type 0
 HoldStays rs rs' r = (hold_in (slice_get rs' r) ≡ hold_in (slice_get rs r)) ⊎ (hold_in (slice_get rs' r) ≡ None)

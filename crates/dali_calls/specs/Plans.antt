@@ -21,12 +21,12 @@ use Rattle.dali_record.specs.Legal.{is_none_left, on_kind}
 use Rattle.dali_record.specs.Spelling.{Is64, IsOperation, IsCall}
 use Rattle.dali_locks.specs.declared.mode.Mode.{Mode}
 use Rattle.dali_locks.specs.declared.mode.Mode.TheVariants.{Shared, Exclusive}
-use Rattle.dali_system.specs.State.{SystemState}
-use Rattle.dali_core.specs.declared.error.SystemError.{SystemError}
-use Rattle.dali_core.specs.Refused.{refusal, stop_refusal}
-use Rattle.dali_core.specs.declared.want.Want.{Want}
-use Rattle.dali_core.specs.declared.want.Want.TheVariants.{Region, Done, Nothing}
-use Rattle.dali_core.specs.declared.operation.Operation.{Operation}
+use Rattle.dali_runs.specs.State.{SystemState}
+use Rattle.dali_system.specs.declared.error.SystemError.{SystemError}
+use Rattle.dali_system.specs.Refused.{refusal, stop_refusal}
+use Rattle.dali_system.specs.declared.want.Want.{Want}
+use Rattle.dali_system.specs.declared.want.Want.TheVariants.{Region, Done, Nothing}
+use Rattle.dali_system.specs.declared.operation.Operation.{Operation}
 use Rattle.dali_calls.specs.declared.stage.Stage.{Stage}
 use Rattle.dali_calls.specs.declared.plan.Phase.{Phase}
 use Rattle.dali_calls.specs.declared.plan.Phase.TheVariants.{Calling, Refused, Answered}

@@ -14,14 +14,14 @@ use Rattle.dali_record.specs.Spelling.{Is64}
 use Rattle.dali_region.specs.State.{RegionState}
 use Rattle.dali_att.specs.declared.state.State.{State}
 use Rattle.dali_att.specs.declared.state.State.TheVariants.{Cleaning}
-use Rattle.dali_system.specs.State.{CoreState, state_of, lock_of}
-use Rattle.dali_system.specs.Run.{covers}
-use Rattle.dali_system.specs.Steps.{back_logged}
-use Rattle.dali_system.specs.Regions.{IsOpen}
-use Rattle.dali_system.specs.Keeps.{may_log_in, with_touched}
-use Rattle.dali_system.specs.Courses.{TakesBack, IsStep}
-use Rattle.dali_facts.specs.Plans.{AtWork}
-use Rattle.dali_core.specs.TakenBack.{IsMadeOf}
+use Rattle.dali_runs.specs.State.{CoreState, state_of, lock_of}
+use Rattle.dali_runs.specs.Run.{covers}
+use Rattle.dali_runs.specs.Steps.{back_logged}
+use Rattle.dali_runs.specs.Regions.{IsOpen}
+use Rattle.dali_runs.specs.Keeps.{may_log_in, with_touched}
+use Rattle.dali_runs.specs.Courses.{TakesBack, IsStep}
+use Rattle.dali_runs.specs.Facts.Plans.{AtWork}
+use Rattle.dali_system.specs.TakenBack.{IsMadeOf}
 
 abbrev pub is_claimed : State → Type 0
 is_claimed (Cleaning latched) = ⊤

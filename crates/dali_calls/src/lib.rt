@@ -4,7 +4,9 @@
 mod changes;
 pub mod laws;
 mod plan;
+pub mod single;
 mod stage;
+pub mod stepwise;
 mod writing;
 
 pub use changes::Changes;

@@ -8,15 +8,15 @@ ghost use Rattle.dali_record.specs.Blocks.{IsSoundOn};
 ghost use Rattle.dali_record.specs.Spelling.{IsCall, record_length};
 ghost use Rattle.dali_region.specs.State.{latched, with_reads, touched, taken_back};
 ghost use Rattle.dali_region.specs.Answers.{latch_answer};
-ghost use Rattle.dali_system.specs.State.{row_of};
-ghost use Rattle.dali_system.specs.Steps.{op_logged, back_logged, done_logged};
-ghost use Rattle.dali_system.specs.Keeps.{HasRoom};
-ghost use Rattle.dali_system.specs.Regions.{IsOpen};
-ghost use Rattle.dali_core.specs.Refused.{refusal};
-ghost use Rattle.dali_core.specs.UnderWay.{IsUnderWay, OneIsUnderWay, WritesNext};
-ghost use Rattle.dali_core.specs.Receipts.{GivesReceipt};
-ghost use Rattle.dali_core.specs.declared.error.SystemError.TheVariants.{OutOfMemory as Memory};
-ghost use Rattle.dali_core.specs.declared.want.Want.TheVariants.{Done as AnswerIsNext};
+ghost use Rattle.dali_runs.specs.State.{row_of};
+ghost use Rattle.dali_runs.specs.Steps.{op_logged, back_logged, done_logged};
+ghost use Rattle.dali_runs.specs.Keeps.{HasRoom};
+ghost use Rattle.dali_runs.specs.Regions.{IsOpen};
+ghost use Rattle.dali_system.specs.Refused.{refusal};
+ghost use Rattle.dali_system.specs.UnderWay.{IsUnderWay, OneIsUnderWay, WritesNext};
+ghost use Rattle.dali_system.specs.Receipts.{GivesReceipt};
+ghost use Rattle.dali_system.specs.declared.error.SystemError.TheVariants.{OutOfMemory as Memory};
+ghost use Rattle.dali_system.specs.declared.want.Want.TheVariants.{Done as AnswerIsNext};
 ghost use Rattle.dali_calls.specs.declared.stage.Stage.TheVariants.{Fresh};
 ghost use Rattle.dali_calls.specs.declared.plan.Phase.TheVariants.{Calling, Refused, Answered};
 ghost use Rattle.dali_calls.specs.Steps.{call_key, progress_of, answer_of, region_in, IsBlockOf};
@@ -25,11 +25,11 @@ ghost use Rattle.dali_calls.specs.Plans;
 
 use crate::changes::Changes;
 use crate::stage::{Stage, key_of};
-use dali_core::{OpenOperation, System, SystemError, Want};
 use dali_geometry::Geometry;
 use dali_locks::Mode;
 use dali_record::{Answer, Block, Call, Op, undo_op};
 use dali_region::{LatchError, Receipt, Region};
+use dali_system::{OpenOperation, System, SystemError, Want};
 use std::marker::Model;
 
 /// Where a plan stands.

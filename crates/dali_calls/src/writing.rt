@@ -1,13 +1,13 @@
 //! All words of an open operation, one after another.
 ghost use Rattle.std.specs.Prelude.{◌≡◌, IsSomeAnd, IfSome};
-ghost use Rattle.dali_system.specs.Regions.{IsOpen};
-ghost use Rattle.dali_core.specs.UnderWay.{OneIsUnderWay};
+ghost use Rattle.dali_runs.specs.Regions.{IsOpen};
+ghost use Rattle.dali_system.specs.UnderWay.{OneIsUnderWay};
 ghost use Rattle.dali_calls.specs.Plans.{with_operation};
 ghost use Rattle.dali_calls.specs.Operating.{AreWritten};
 
 use crate::plan::Plan;
-use dali_core::TakeBack;
 use dali_region::Region;
+use dali_system::TakeBack;
 
 /// Writes all words of a plan's open operation, which is under way on this region. Takes no memory.
 pub fn write_all(plan: &mut Plan, region: &mut Region)

@@ -11,8 +11,8 @@ use Rattle.dali_geometry.specs.Places.{regions}
 use Rattle.dali_record.specs.declared.records.Record.TheVariants.{AuditClean}
 use Rattle.dali_record.proofs.Batches.{number_is_length}
 use Rattle.dali_region.specs.State.{RegionState}
-use Rattle.dali_system.specs.Passes.{Pass, is_pass_of, is_find_of, has_passed, has_found, audits_with}
-use Rattle.dali_system.specs.Courses.{Step, AuditBegins, AuditEnds, Passes, pass_now}
+use Rattle.dali_runs.specs.Passes.{Pass, is_pass_of, is_find_of, has_passed, has_found, audits_with}
+use Rattle.dali_runs.specs.Courses.{Step, AuditBegins, AuditEnds, Passes, pass_now}
 use Rattle.dali_crash.specs.Checkpoints.{Head, Does, Point, target, pass_copy, passes_region, copies_after, answers_none, IsPointStep}
 use Rattle.dali_checkpoint.specs.Running.{AreCopied, IsPassedAt, PassesTell, IsCertifiedAt}
 use Rattle.dali_checkpoint.proofs.Stays.{Stays, passed_on, same_target}

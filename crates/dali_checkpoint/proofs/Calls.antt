@@ -5,7 +5,7 @@ use Rattle.std.proofs.Math.ListN.{drop_of_length-le}
 use Rattle.std.proofs.lemmas.Bool.{eq-eqb}
 use Rattle.std.proofs.lemmas.Option.{slice_get_within}
 use Rattle.dali_lists.proofs.Options.{some_same}
-use Rattle.dali_system.specs.Run.{blocks_on}
+use Rattle.dali_runs.specs.Run.{blocks_on}
 use Rattle.dali_geometry.specs.Sizes.{Sizes}
 use Rattle.dali_geometry.specs.Places.{regions}
 use Rattle.dali_record.specs.declared.records.Record.{Record}
@@ -16,28 +16,29 @@ use Rattle.dali_region.specs.declared.Side.TheVariants.{A as SideA, B as SideB}
 use Rattle.dali_region.specs.State.{RegionState}
 use Rattle.dali_region.specs.Answers.{is_dirty, cleaned}
 use Rattle.dali_store.specs.Store.{Files as Disk}
-use Rattle.dali_system.specs.State.{SystemState, stable}
-use Rattle.dali_system.specs.Run.{RunsOn, no_image}
-use Rattle.dali_system.specs.Steps.{taken, in_checkpoint}
-use Rattle.dali_system.specs.Keeps.{with_region}
-use Rattle.dali_system.specs.ImageSteps.{told_with}
-use Rattle.dali_system.specs.Courses.{Takes, Flushes}
-use Rattle.dali_system.proofs.ImageSteps.{side_self}
-use Rattle.dali_facts.proofs.KeysAndUndos.{has_counts}
+use Rattle.dali_store.specs.declared.store.Store.{Ghosts}
+use Rattle.dali_runs.specs.State.{SystemState, stable}
+use Rattle.dali_runs.specs.Run.{RunsOn, no_image}
+use Rattle.dali_runs.specs.Steps.{taken, in_checkpoint}
+use Rattle.dali_runs.specs.Keeps.{with_region}
+use Rattle.dali_runs.specs.ImageSteps.{told_with}
+use Rattle.dali_runs.specs.Courses.{Takes, Flushes}
+use Rattle.dali_runs.proofs.ImageSteps.{side_self}
+use Rattle.dali_runs.proofs.FactsLemmas.KeysAndUndos.{has_counts}
 use Rattle.dali_crash.specs.Checkpoints.{Head, Copy, StoreStep, Does, Starts, Keeps, WritesHead, Syncs, Turns, Finishes, Point, IsPointStep, IsPointCourse, target, side_of, head_now, head_with, synced_with, copies_with, copy_at, image_in, with_flag, with_current, IsUntouched, MayTurn, IsCertified}
 use Rattle.dali_crash.specs.StoreRuns.{StoreRun, IsKept}
 use Rattle.dali_crash.specs.Traces.{Start, bases_of}
-use Rattle.dali_traces.specs.Disks.{header_bytes, table_bytes, image_file, image_name, CanBeImage}
-use Rattle.dali_traces.specs.Places.{place_of}
-use Rattle.dali_traces.proofs.Heads.{next_fits}
-use Rattle.dali_vault.specs.Vaulted.{Vaulted}
-use Rattle.dali_steps.specs.At.{Goes}
-use Rattle.dali_steps.specs.Said.{HasWritten, HasSynced}
-use Rattle.dali_steps.specs.Called.{HeaderWritten, TableWritten, Copied, Skipped, IsSynced, IsUnderWayIn, IsHeldIn}
-use Rattle.dali_steps.proofs.Steps.{quiet_goes, header_goes, table_goes, copy_goes, skip_goes, sync_goes, turn_goes}
-use Rattle.dali_whole.specs.Cores.{IsCoreAt}
-use Rattle.dali_whole.specs.Flushed.{FlushesFrame, AllFlushed}
-use Rattle.dali_whole.proofs.Flushing.{flushes_all}
+use Rattle.dali_crash.specs.Disks.Disks.{header_bytes, table_bytes, image_file, image_name, CanBeImage}
+use Rattle.dali_crash.specs.Disks.Places.{place_of}
+use Rattle.dali_crash.proofs.DisksLemmas.Heads.{next_fits}
+use Rattle.dali_core.specs.Vault.Vaulted.{Vaulted}
+use Rattle.dali_core.specs.Steps.At.{Goes}
+use Rattle.dali_core.specs.Steps.Said.{HasWritten, HasSynced}
+use Rattle.dali_core.specs.Steps.Called.{HeaderWritten, TableWritten, Copied, Skipped, IsSynced, IsUnderWayIn, IsHeldIn}
+use Rattle.dali_core.proofs.StepsLemmas.Steps.{quiet_goes, header_goes, table_goes, copy_goes, skip_goes, sync_goes, turn_goes}
+use Rattle.dali_core.specs.Cores.{IsCoreAt}
+use Rattle.dali_core.specs.Flushed.{FlushesFrame, AllFlushed}
+use Rattle.dali_core.proofs.Flushing.{flushes_all}
 use Rattle.dali_image.specs.declared.header.Header.{Header}
 use Rattle.dali_image.specs.Headers.{heading}
 use Rattle.dali_image.specs.Rows.{rows_of}
@@ -116,30 +117,30 @@ pub record FlushedSo (p : Point) (IsSo : List (List Record) → Point → Type 0
   pub all : stable to.core ≡ length to.log
   pub stay : Stays p to
 
-module _ {V : Type 0} (told : V → Option Disk) (may_leave : V → Disk → Type 0) (faults : V → ℕ) where
+module _ {V : Type 0} (means : Ghosts V) where
   -- ---- what the calls say of the vault
-  pub flush_ran : (y : SystemState) (v w : Vaulted V) → FlushesFrame told may_leave faults y v w → v.stopped ≡ false
+  pub flush_ran : (y : SystemState) (v w : Vaulted V) → FlushesFrame means y v w → v.stopped ≡ false
   flush_ran y v w said = sym (ap (λ (z : Vaulted V). z.stopped) said.2.vault) ∙ said.2.ok.runs
 
   -- ---- a flush, while a checkpoint is under way
   flushed_so : (IsSo : List (List Record) → Point → Type 0) (s : Start) (B : List (List Record)) (p : Point) (gs : List RegionState) (y z : SystemState) (v w : Vaulted V)
-      → IsCoreAt told may_leave faults s B p gs y v → FlushesFrame told may_leave faults y v w → z ≡ taken y
-      → ((f : AllFlushed told may_leave faults s p gs v z w) → Stays p f.to → IsSo f.batches f.to) → FlushedSo p IsSo
+      → IsCoreAt means s B p gs y v → FlushesFrame means y v w → z ≡ taken y
+      → ((f : AllFlushed means s p gs v z w) → Stays p f.to → IsSo f.batches f.to) → FlushedSo p IsSo
   flushed_so IsSo s B p gs y z v w at said is there = record { to = f.to; batches = f.batches; course = f.course; is = there f stay; all = f.all; stay = stay }
     where
-      f : AllFlushed told may_leave faults s p gs v z w
-      f = flushes_all told may_leave faults gs y z v w (flush_ran y v w said) said is s B p at
+      f : AllFlushed means s p gs v z w
+      f = flushes_all means gs y z v w (flush_ran y v w said) said is s B p at
 
       stay : Stays p f.to
       stay = both_stay p f.to f.course
 
   abbrev pub CopyingFlushed : Start → Point → List RegionState → SystemState → Vaulted V → Checkpointed → Head → Type 0
-  CopyingFlushed s p gs z w c h = FlushedSo p (λ B q. IsCopying told may_leave faults s B q gs z w c h)
+  CopyingFlushed s p gs z w c h = FlushedSo p (λ B q. IsCopying means s B q gs z w c h)
 
   pub copying_flushed : (s : Start) (B : List (List Record)) (p : Point) (gs : List RegionState) (y z : SystemState) (v w : Vaulted V) (c : Checkpointed) (h : Head)
-      → IsCopying told may_leave faults s B p gs y v c h → FlushesFrame told may_leave faults y v w → z ≡ taken y
+      → IsCopying means s B p gs y v c h → FlushesFrame means y v w → z ≡ taken y
       → CopyingFlushed s p gs z w c h
-  copying_flushed s B p gs y z v w c h k said is = flushed_so (λ C q. IsCopying told may_leave faults s C q gs z w c h) s B p gs y z v w k.at said is (λ f stay. record {
+  copying_flushed s B p gs y z v w c h k said is = flushed_so (λ C q. IsCopying means s C q gs z w c h) s B p gs y z v w k.at said is (λ f stay. record {
     at = f.at;
     flag = ap (λ (x : SystemState). x.checking) is ∙ k.flag;
     is = is_of_on p f.to c h stay k.is;
@@ -148,12 +149,12 @@ module _ {V : Type 0} (told : V → Option Disk) (may_leave : V → Disk → Typ
   })
 
   abbrev pub SettledFlushed : Start → Point → List RegionState → SystemState → Vaulted V → Checkpointed → Head → ℕ → Type 0
-  SettledFlushed s p gs z w c h n = FlushedSo p (λ B q. IsSettled told may_leave faults s B q gs z w c h n)
+  SettledFlushed s p gs z w c h n = FlushedSo p (λ B q. IsSettled means s B q gs z w c h n)
 
   pub settled_flushed : (s : Start) (B : List (List Record)) (p : Point) (gs : List RegionState) (y z : SystemState) (v w : Vaulted V) (c : Checkpointed) (h : Head) (n : ℕ)
-      → IsSettled told may_leave faults s B p gs y v c h n → FlushesFrame told may_leave faults y v w → z ≡ taken y
+      → IsSettled means s B p gs y v c h n → FlushesFrame means y v w → z ≡ taken y
       → SettledFlushed s p gs z w c h n
-  settled_flushed s B p gs y z v w c h n k said is = flushed_so (λ C q. IsSettled told may_leave faults s C q gs z w c h n) s B p gs y z v w k.at said is (λ f stay. record {
+  settled_flushed s B p gs y z v w c h n k said is = flushed_so (λ C q. IsSettled means s C q gs z w c h n) s B p gs y z v w k.at said is (λ f stay. record {
     at = f.at;
     flag = ap (λ (x : SystemState). x.checking) is ∙ k.flag;
     is = is_of_on p f.to c h stay k.is;
@@ -170,23 +171,23 @@ module _ {V : Type 0} (told : V → Option Disk) (may_leave : V → Disk → Typ
     pub to : Point
     pub batches : List (List Record)
     pub course : IsPointCourse p (Starts ∷ Does Takes ∷ Does Flushes ∷ Keeps ∷ []) to
-    pub at : IsCoreAt told may_leave faults s batches to gs z w
+    pub at : IsCoreAt means s batches to gs z w
     pub begun : to.begun ≡ Some (head_now to.log to.core)
 
-  pub flag_rises : (s : Start) (B : List (List Record)) (p : Point) (gs : List RegionState) (y : SystemState) (v : Vaulted V) → IsIdle told may_leave faults s B p gs y v → IsPointStep p Starts (flagged p)
+  pub flag_rises : (s : Start) (B : List (List Record)) (p : Point) (gs : List RegionState) (y : SystemState) (v : Vaulted V) → IsIdle means s B p gs y v → IsPointStep p Starts (flagged p)
   flag_rises s B p gs y v idle = (ap (λ (x : SystemState). x.checking) idle.at.system ∙ idle.flag, refl)
 
-  pub flagged_at : (s : Start) (B : List (List Record)) (p : Point) (gs : List RegionState) (y : SystemState) (v : Vaulted V) → IsIdle told may_leave faults s B p gs y v
-      → IsCoreAt told may_leave faults s B (flagged p) gs (in_checkpoint y true) v
+  pub flagged_at : (s : Start) (B : List (List Record)) (p : Point) (gs : List RegionState) (y : SystemState) (v : Vaulted V) → IsIdle means s B p gs y v
+      → IsCoreAt means s B (flagged p) gs (in_checkpoint y true) v
   flagged_at s B p gs y v idle = record {
     regions = idle.at.regions;
     system = ap (λ (x : SystemState). in_checkpoint x true) idle.at.system;
-    vault = quiet_goes told may_leave faults s B p (flagged p) Starts v idle.at.vault (flag_rises s B p gs y v idle) refl (λ F. refl) refl;
+    vault = quiet_goes means s B p (flagged p) Starts v idle.at.vault (flag_rises s B p gs y v idle) refl (λ F. refl) refl;
     none_in_hand = idle.at.none_in_hand;
   }
 
   pub start_keeps : (s : Start) (B : List (List Record)) (p : Point) (gs : List RegionState) (y : SystemState) (v w : Vaulted V)
-      → IsIdle told may_leave faults s B p gs y v → FlushesFrame told may_leave faults y v w
+      → IsIdle means s B p gs y v → FlushesFrame means y v w
       → KeptAt s p gs (in_checkpoint (taken y) true) w
   start_keeps s B p gs y v w idle said = record {
     to = p3;
@@ -195,7 +196,7 @@ module _ {V : Type 0} (told : V → Option Disk) (may_leave : V → Disk → Typ
     at = record {
       regions = f.at.regions;
       system = f.at.system;
-      vault = quiet_goes told may_leave faults s f.batches f.to p3 Keeps w f.at.vault keeps refl (λ F. refl) refl;
+      vault = quiet_goes means s f.batches f.to p3 Keeps w f.at.vault keeps refl (λ F. refl) refl;
       none_in_hand = f.at.none_in_hand;
     };
     begun = refl;
@@ -207,11 +208,11 @@ module _ {V : Type 0} (told : V → Option Disk) (may_leave : V → Disk → Typ
       p1 : Point
       p1 = flagged p
 
-      frame : FlushesFrame told may_leave faults y1 v w
+      frame : FlushesFrame means y1 v w
       frame = (said.0, record { body = said.1.body; records = said.1.records }, said.2)
 
-      f : AllFlushed told may_leave faults s p1 gs v (taken y1) w
-      f = flushes_all told may_leave faults gs y1 (taken y1) v w (flush_ran y v w said) frame refl s B p1 (flagged_at s B p gs y v idle)
+      f : AllFlushed means s p1 gs v (taken y1) w
+      f = flushes_all means gs y1 (taken y1) v w (flush_ran y v w said) frame refl s B p1 (flagged_at s B p gs y v idle)
 
       stay : Stays p1 f.to
       stay = both_stay p1 f.to f.course
@@ -228,7 +229,7 @@ module _ {V : Type 0} (told : V → Option Disk) (may_leave : V → Disk → Typ
         refl,
       )
 
-  pub start_goes : StartGoes told may_leave faults
+  pub start_goes : StartGoes means
   start_goes s B p gs y z v w c idle said is = record {
     to = to;
     batches = k.batches;
@@ -248,12 +249,12 @@ module _ {V : Type 0} (told : V → Option Disk) (may_leave : V → Disk → Typ
         table = said.table ∙ ap table_bytes table_is;
       };
       copies = λ r l. absurd (omega (arith, l, said.copied));
-      under_way = subst (λ i. IsUnderWayIn told may_leave faults to h i w.store) (sym said.copied) head.begins;
+      under_way = subst (λ i. IsUnderWayIn means to h i w.store) (sym said.copied) head.begins;
     };
     first = ap (λ (x : SystemState). x.records) k.at.system;
   }
     where
-      wr : Writes told may_leave faults y v (image_name (side_in c)) 0 (heading c.header) w
+      wr : Writes means y v (image_name (side_in c)) 0 (heading c.header) w
       wr = said.writes
 
       k : KeptAt s p gs (in_checkpoint (taken y) true) wr.mid
@@ -276,13 +277,13 @@ module _ {V : Type 0} (told : V → Option Disk) (may_leave : V → Disk → Typ
       side_is : side_in c ≡ target k.to
       side_is = ap (λ (x : Header). side_of x.number) header_is
 
-      written : HasWritten told may_leave faults wr.mid (image_name (target k.to)) 0 (header_bytes k.to.core.system.sizes h) w
+      written : HasWritten means wr.mid (image_name (target k.to)) 0 (header_bytes k.to.core.system.sizes h) w
       written =
-          subst (λ b. HasWritten told may_leave faults wr.mid (image_name (target k.to)) 0 b w) (ap heading header_is ∙ headers_are_bytes k.to.core.system.sizes h)
-          (subst (λ side. HasWritten told may_leave faults wr.mid (image_name side) 0 (heading c.header) w) side_is wr.written)
+          subst (λ b. HasWritten means wr.mid (image_name (target k.to)) 0 b w) (ap heading header_is ∙ headers_are_bytes k.to.core.system.sizes h)
+          (subst (λ side. HasWritten means wr.mid (image_name side) 0 (heading c.header) w) side_is wr.written)
 
-      head : HeaderWritten told may_leave faults s k.batches k.to h wr.mid w
-      head = header_goes told may_leave faults s k.batches k.to wr.mid w h k.at.vault (ap is_some k.begun) written
+      head : HeaderWritten means s k.batches k.to h wr.mid w
+      head = header_goes means s k.batches k.to wr.mid w h k.at.vault (ap is_some k.begun) written
 
       to : Point
       to = head.goes.to
@@ -295,7 +296,7 @@ module _ {V : Type 0} (told : V → Option Disk) (may_leave : V → Disk → Typ
   pub side_is_next : (s : Start) (B : List (List Record)) (p : Point) (gs : List RegionState) (y : SystemState) (v : Vaulted V) (c : Checkpointed) (h : Head) → StoreRun (bases_of s) s.log no_image p → IsOf p c h → side_in c ≡ target p
   side_is_next s B p gs y v c h run is = ap (λ (x : Header). side_of x.number) is.header ∙ ap side_of (run.kept h is.begun).number
 
-  pub copy_goes_on : CopyGoes told may_leave faults
+  pub copy_goes_on : CopyGoes means
   copy_goes_on s B p gs y v w c h g k at dirty said = record {
     to = to;
     step = done.goes.step;
@@ -329,10 +330,10 @@ module _ {V : Type 0} (told : V → Option Disk) (may_leave : V → Disk → Typ
       untouched : IsUntouched p.log r n
       untouched = untouched_now p.log r
 
-      done : Copied told may_leave faults s B p r n v w
-      done = copy_goes told may_leave faults s B p v w r n g k.at.vault
+      done : Copied means s B p r n v w
+      done = copy_goes means s B p v w r n g k.at.vault
           (record { at = ap (λ l. slice_get l r) k.at.regions ∙ at; under_way = ap is_some k.is.begun; dirty = subst (λ side. is_dirty g side ≡ true) side_is dirty; untouched = untouched })
-          (subst (λ side. HasWritten told may_leave faults v (image_name side) (place_of r) (words_bytes g.back) w) side_is said)
+          (subst (λ side. HasWritten means v (image_name side) (place_of r) (words_bytes g.back) w) side_is said)
 
       to : Point
       to = done.goes.to
@@ -354,7 +355,7 @@ module _ {V : Type 0} (told : V → Option Disk) (may_leave : V → Disk → Typ
       copied_next : (q : ℕ) → q < r + 1 → IsCopiedAt to h (length to.log) q
       copied_next q l = next_copied p to h r q l kept.to (ap (λ (z : Point). z.log) same) (ap target same) (ap (λ (z : Point). z.copies) same) k.copies
 
-  pub skip_goes_on : SkipGoes told may_leave faults
+  pub skip_goes_on : SkipGoes means
   skip_goes_on s B p gs y v c h g k at clean reaches = record {
     to = to;
     step = done.goes.step;
@@ -372,7 +373,7 @@ module _ {V : Type 0} (told : V → Option Disk) (may_leave : V → Disk → Typ
         table = k.is.table;
       };
       copies = copied_next;
-      under_way = if_two (told v.store) _ _ _ (λ fs a b. record { copied = λ i l. ap is_some (copied_next i l).there; header = a.header; long = subst (λ side. place_of (r + 1) ≤ length (image_file side fs)) (side_is ∙ ap target (sym same)) b }) (done.still h r k.under_way) reaches;
+      under_way = if_two (means.told v.store) _ _ _ (λ fs a b. record { copied = λ i l. ap is_some (copied_next i l).there; header = a.header; long = subst (λ side. place_of (r + 1) ≤ length (image_file side fs)) (side_is ∙ ap target (sym same)) b }) (done.still h r k.under_way) reaches;
     };
   }
     where
@@ -382,8 +383,8 @@ module _ {V : Type 0} (told : V → Option Disk) (may_leave : V → Disk → Typ
       side_is : side_in c ≡ target p
       side_is = side_is_next s B p gs y v c h k.at.vault.run k.is
 
-      done : Skipped told may_leave faults s B p r (length p.log) v
-      done = skip_goes told may_leave faults s B p v r (length p.log) g k.at.vault
+      done : Skipped means s B p r (length p.log) v
+      done = skip_goes means s B p v r (length p.log) g k.at.vault
           (record { at = ap (λ l. slice_get l r) k.at.regions ∙ at; under_way = ap is_some k.is.begun; clear = subst (λ side. is_dirty g side ≡ false) side_is clean; untouched = untouched_now p.log r })
 
       to : Point
@@ -399,7 +400,7 @@ module _ {V : Type 0} (told : V → Option Disk) (may_leave : V → Disk → Typ
       copied_next q l = next_copied p to h r q l kept.to (ap (λ (z : Point). z.log) same) (ap target same) (ap (λ (z : Point). z.copies) same) k.copies
 
   -- ---- a settlement
-  pub settle_goes_on : SettleGoes told may_leave faults
+  pub settle_goes_on : SettleGoes means
   settle_goes_on s B p gs y z v w c h k full said is = record {
     to = to;
     batches = f.batches;
@@ -421,7 +422,7 @@ module _ {V : Type 0} (told : V → Option Disk) (may_leave : V → Disk → Typ
       within = omega (arith, count, ap (λ (q : Point). length q.log) same, f.stay.longer);
       copies = λ r l. settled_copy r l;
       head = ap (λ (q : Point). q.heads (target q)) same ∙ head_there (target f.to) f.to.heads h;
-      whole = done.whole (subst (λ i. IsUnderWayIn told may_leave faults f.to h i said.mid.store) all_is f.is.under_way);
+      whole = done.whole (subst (λ i. IsUnderWayIn means f.to h i said.mid.store) all_is f.is.under_way);
     };
   }
     where
@@ -434,11 +435,11 @@ module _ {V : Type 0} (told : V → Option Disk) (may_leave : V → Disk → Typ
       side_is : side_in c ≡ target f.to
       side_is = side_is_next s f.batches f.to gs (taken y) said.mid c h f.is.at.vault.run f.is.is
 
-      done : TableWritten told may_leave faults s f.batches f.to h said.mid w
-      done = table_goes told may_leave faults s f.batches f.to said.mid w h f.is.at.vault (ap is_some f.is.is.begun)
-          (subst (λ i. HasWritten told may_leave faults said.mid (image_name (target f.to)) (place_of i) (table_bytes h.table) w) all_is
-          (subst (λ b. HasWritten told may_leave faults said.mid (image_name (target f.to)) (place_of c.copied) b w) k.is.table
-          (subst (λ side. HasWritten told may_leave faults said.mid (image_name side) (place_of c.copied) c.table w) side_is said.written)))
+      done : TableWritten means s f.batches f.to h said.mid w
+      done = table_goes means s f.batches f.to said.mid w h f.is.at.vault (ap is_some f.is.is.begun)
+          (subst (λ i. HasWritten means said.mid (image_name (target f.to)) (place_of i) (table_bytes h.table) w) all_is
+          (subst (λ b. HasWritten means said.mid (image_name (target f.to)) (place_of c.copied) b w) k.is.table
+          (subst (λ side. HasWritten means said.mid (image_name side) (place_of c.copied) c.table w) side_is said.written)))
 
       to : Point
       to = done.goes.to
@@ -461,14 +462,14 @@ module _ {V : Type 0} (told : V → Option Disk) (may_leave : V → Disk → Typ
     pub to : Point
     pub batches : List (List Record)
     pub course : IsPointCourse p (Does Takes ∷ Does Flushes ∷ Syncs ∷ []) to
-    pub at : IsCoreAt told may_leave faults s batches to gs z w
+    pub at : IsCoreAt means s batches to gs z w
     pub end : ℕ
     pub may : MayTurn to h b end
-    pub held : IsHeldIn told may_leave faults to w.store
+    pub held : IsHeldIn means to w.store
     pub all : stable to.core ≡ length to.log
 
   pub certify_turn : (s : Start) (B : List (List Record)) (p : Point) (gs : List RegionState) (y : SystemState) (v mid late : Vaulted V) (c : Checkpointed) (h : Head) (n b : ℕ)
-      → IsSettled told may_leave faults s B p gs y v c h n → IsCertifiedAt p n b → FlushesFrame told may_leave faults y v mid → HasSynced told may_leave faults mid (image_name (side_in c)) late
+      → IsSettled means s B p gs y v c h n → IsCertifiedAt p n b → FlushesFrame means y v mid → HasSynced means mid (image_name (side_in c)) late
       → CertifyTurn s p gs (taken y) late h b
   certify_turn s B p gs y v mid late c h n b k certified frame said = record {
     to = q;
@@ -500,9 +501,9 @@ module _ {V : Type 0} (told : V → Option Disk) (may_leave : V → Disk → Typ
       side_is : side_in c ≡ target f.to
       side_is = side_is_next s f.batches f.to gs (taken y) mid c h f.is.at.vault.run f.is.is
 
-      synced : IsSynced told may_leave faults s f.batches f.to mid late
-      synced = sync_goes told may_leave faults s f.batches f.to mid late f.is.at.vault (ap is_some f.is.is.begun)
-          (subst (λ side. HasSynced told may_leave faults mid (image_name side) late) side_is said)
+      synced : IsSynced means s f.batches f.to mid late
+      synced = sync_goes means s f.batches f.to mid late f.is.at.vault (ap is_some f.is.is.begun)
+          (subst (λ side. HasSynced means mid (image_name side) late) side_is said)
 
       q : Point
       q = synced.goes.to
@@ -521,7 +522,7 @@ module _ {V : Type 0} (told : V → Option Disk) (may_leave : V → Disk → Typ
           let one : i.copy ≡ j.copy = some_same (sym i.there ∙ j.there) in
           (i.copy, ap (λ (z : Point). z.copies (target z) r) same ∙ i.there, record { since = i.since; until = omega (arith, i.until, certified.behind); passed = ap (λ (x : Copy). x.passed) one ∙ j.passed })
 
-  pub certify_goes_on : CertifyGoes told may_leave faults
+  pub certify_goes_on : CertifyGoes means
   certify_goes_on s B p gs y z v w c h n b k certified said is = record {
     to = to;
     batches = t.batches;
@@ -530,7 +531,7 @@ module _ {V : Type 0} (told : V → Option Disk) (may_leave : V → Disk → Typ
       at = record {
         regions = ap (λ (q : Point). q.core.regions) same ∙ t.at.regions;
         system = ap (λ (q : Point). in_checkpoint q.core.system false) same ∙ (ap (λ (x : SystemState). in_checkpoint x false) t.at.system ∙ sym is);
-        vault = quiet_goes told may_leave faults s t.batches turned.to to Finishes w turned.is finishes refl (λ F. refl) refl;
+        vault = quiet_goes means s t.batches turned.to to Finishes w turned.is finishes refl (λ F. refl) refl;
         none_in_hand = λ runs. ap (λ (x : Vaulted V). x.flushed) said.turned.vault ∙ (t.at.none_in_hand said.synced.ok.runs ∙ ap (λ (x : SystemState). x.taken) (sym is));
       };
       flag = ap (λ (x : SystemState). x.checking) is;
@@ -543,8 +544,8 @@ module _ {V : Type 0} (told : V → Option Disk) (may_leave : V → Disk → Typ
       t : CertifyTurn s p gs (taken y) said.late h b
       t = certify_turn s B p gs y v said.mid said.late c h n b k certified said.flushed said.synced
 
-      turned : Goes told may_leave faults s t.to Turns t.batches w
-      turned = turn_goes told may_leave faults s t.batches t.to said.late w h b t.end t.at.vault (ap is_some t.may.begun) t.may t.held said.turned
+      turned : Goes means s t.to Turns t.batches w
+      turned = turn_goes means s t.batches t.to said.late w h b t.end t.at.vault (ap is_some t.may.begun) t.may t.held said.turned
 
       same : turned.to ≡ record t.to { core = with_current t.to.core; begun = None }
       same = turned.step.5

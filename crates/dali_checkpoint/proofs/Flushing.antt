@@ -3,11 +3,12 @@ use Rattle.std.proofs.Common.{refl, Option, ℕ, [], ◌∷◌, sym, subst, ◌�
 use Rattle.dali_geometry.specs.Sizes.{Sizes}
 use Rattle.dali_geometry.specs.Places.{regions}
 use Rattle.dali_store.specs.Store.{Files as Disk}
-use Rattle.dali_system.specs.Steps.{taken}
-use Rattle.dali_system.specs.Courses.{Takes, Flushes}
+use Rattle.dali_store.specs.declared.store.Store.{Ghosts}
+use Rattle.dali_runs.specs.Steps.{taken}
+use Rattle.dali_runs.specs.Courses.{Takes, Flushes}
 use Rattle.dali_crash.specs.Checkpoints.{Head, Does, Point, IsPointCourse}
-use Rattle.dali_whole.specs.Flushed.{AllFlushed}
-use Rattle.dali_whole.proofs.Flushing.{flushes_all}
+use Rattle.dali_core.specs.Flushed.{AllFlushed}
+use Rattle.dali_core.proofs.Flushing.{flushes_all}
 use Rattle.dali_checkpoint.specs.Running.{AreCopied, PassesTell}
 use Rattle.dali_checkpoint.specs.Laws.{FlushKeeps}
 use Rattle.dali_checkpoint.proofs.Audited.{passes_go_on, certified_on}
@@ -26,11 +27,11 @@ tells_on p q h n b course copies tells =
     let late = passes_go_on m course.2.0 Flushes h n b course.2.1 (flushes_stays m course.2.0 course.2.1) (same_regions p m h n stay copies) mid in
     subst (λ (z : Point). PassesTell z b) course.2.2 late
 
-module _ {V : Type 0} (told : V → Option Disk) (may_leave : V → Disk → Type 0) (faults : V → ℕ) where
-  pub flush_keeps : FlushKeeps told may_leave faults
+module _ {V : Type 0} (means : Ghosts V) where
+  pub flush_keeps : FlushKeeps means
   flush_keeps s B p gs y v w said = record {
     idle = λ k.
-        let f : AllFlushed told may_leave faults s p gs v (taken y) w = flushes_all told may_leave faults gs y (taken y) v w (flush_ran told may_leave faults y v w said) said refl s B p k.at in
+        let f : AllFlushed means s p gs v (taken y) w = flushes_all means gs y (taken y) v w (flush_ran means y v w said) said refl s B p k.at in
         record {
           to = f.to;
           batches = f.batches;
@@ -38,10 +39,10 @@ module _ {V : Type 0} (told : V → Option Disk) (may_leave : V → Disk → Typ
           is = record { at = f.at; flag = k.flag; begun = (both_stay p f.to f.course).begun ∙ k.begun };
         };
     copying = λ c h k.
-        let f : CopyingFlushed told may_leave faults s p gs (taken y) w c h = copying_flushed told may_leave faults s B p gs y (taken y) v w c h k said refl in
+        let f : CopyingFlushed means s p gs (taken y) w c h = copying_flushed means s B p gs y (taken y) v w c h k said refl in
         record { to = f.to; batches = f.batches; course = f.course; is = f.is };
     settled = λ c h n k.
-        let f : SettledFlushed told may_leave faults s p gs (taken y) w c h n = settled_flushed told may_leave faults s B p gs y (taken y) v w c h n k said refl in
+        let f : SettledFlushed means s p gs (taken y) w c h n = settled_flushed means s B p gs y (taken y) v w c h n k said refl in
         record {
           to = f.to;
           batches = f.batches;

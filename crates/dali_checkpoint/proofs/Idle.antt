@@ -3,15 +3,16 @@ use Rattle.std.proofs.Common.{◌≡◌, ℕ, ◌+◌, ◌*◌, ◌<◌, ◌≤�
 use Rattle.std.specs.Prelude.{sum_by}
 use Rattle.std.proofs.lemmas.List.{take-append-drop}
 use Rattle.std.proofs.lemmas.List.Sums.{sum_by-append}
-use Rattle.dali_counts.proofs.LightLogs.{is_light}
-use Rattle.dali_counts.proofs.SmallLogs.{is_small}
+use Rattle.dali_runs.proofs.CountsLemmas.LightLogs.{is_light}
+use Rattle.dali_runs.proofs.CountsLemmas.SmallLogs.{is_small}
 use Rattle.dali_geometry.specs.Sizes.{Sizes}
 use Rattle.dali_record.specs.declared.records.Record.{Record}
 use Rattle.dali_record.specs.Spelling.{record_length}
-use Rattle.dali_steps.proofs.Steps.{places_are_small}
-use Rattle.dali_system.specs.Run.{LogRun}
+use Rattle.dali_core.proofs.StepsLemmas.Steps.{places_are_small}
+use Rattle.dali_runs.specs.Run.{LogRun}
 use Rattle.dali_store.specs.Store.{Files as Disk}
-use Rattle.dali_system.specs.State.{SystemState, log_after, stable}
+use Rattle.dali_store.specs.declared.store.Store.{Ghosts}
+use Rattle.dali_runs.specs.State.{SystemState, log_after, stable}
 use Rattle.dali_crash.specs.Checkpoints.{Head}
 use Rattle.dali_crash.proofs.Flags.{along}
 use Rattle.dali_checkpoint.specs.Laws.{PointsTell, EndsIdle, EndIsFar}
@@ -31,8 +32,8 @@ end_low s L n end log within short =
     ap (sum_by record_length) (sym (take-append-drop n L)) ∙ sum_by-append record_length (take n L) (drop n L) in
     omega (arith, short, within, whole, is_light s L log.legal log.spelled, is_small s L log.legal)
 
-module _ {V : Type 0} (told : V → Option Disk) (may_leave : V → Disk → Type 0) (faults : V → ℕ) where
-  pub points_tell : PointsTell told may_leave faults
+module _ {V : Type 0} (means : Ghosts V) where
+  pub points_tell : PointsTell means
   points_tell s B p gs y v = record {
     idle = λ k. none_tells p.begun p.core.system.checking k.begun;
     copying = λ c h k some. ap (λ (x : SystemState). x.checking) k.at.system ∙ k.flag;
@@ -40,16 +41,16 @@ module _ {V : Type 0} (told : V → Option Disk) (may_leave : V → Disk → Typ
     under_way = λ at flag some. ap (λ (x : SystemState). x.checking) at.system ∙ flag;
   }
 
-  pub ends_idle : EndsIdle told may_leave faults
+  pub ends_idle : EndsIdle means
   ends_idle s p gs z w tells e flag = record {
     at = e.at;
     flag = flag;
     begun = none_of e.to.begun e.to.core.system.checking (along p e.to e.steps tells e.course) (ap (λ (x : SystemState). x.checking) e.at.system ∙ flag);
   }
 
-  pub end_is_far : EndIsFar told may_leave faults
+  pub end_is_far : EndIsFar means
   end_is_far s B p gs y v at =
       let run = at.vault.run.run.run in (
         subst (λ n. n < 2 ^ 61) at.vault.vault.end (end_low p.core.system.sizes (log_after s.log p.core.system) (stable p.core) p.core.vault.end run.runs.log run.vault.within run.vault.short),
-        (places_are_small told may_leave faults s B p v at.vault).1,
+        (places_are_small means s B p v at.vault).1,
       )

@@ -3,40 +3,41 @@ use Rattle.std.proofs.Common.{◌≡◌, ℕ, Bool, List, Option, ap, sym, ◌�
 use Rattle.dali_region.specs.declared.Side.{Side}
 use Rattle.dali_store.specs.declared.store.FileName.{FileName}
 use Rattle.dali_store.specs.Store.{Files as Disk}
-use Rattle.dali_system.specs.State.{SystemState}
-use Rattle.dali_system.specs.Steps.{taken, in_checkpoint}
-use Rattle.dali_traces.specs.Disks.{image_name}
-use Rattle.dali_vault.specs.Vaulted.{Vaulted, with_store}
-use Rattle.dali_steps.specs.Said.{HasWritten, WriteHasFailed, HasSynced, SyncHasFailed, HasTurned, TurnHasFailed}
-use Rattle.dali_whole.specs.Flushed.{FlushesFrame}
+use Rattle.dali_store.specs.declared.store.Store.{Ghosts}
+use Rattle.dali_runs.specs.State.{SystemState}
+use Rattle.dali_runs.specs.Steps.{taken, in_checkpoint}
+use Rattle.dali_crash.specs.Disks.Disks.{image_name}
+use Rattle.dali_core.specs.Vault.Vaulted.{Vaulted, with_store}
+use Rattle.dali_core.specs.Steps.Said.{HasWritten, WriteHasFailed, HasSynced, SyncHasFailed, HasTurned, TurnHasFailed}
+use Rattle.dali_core.specs.Flushed.{FlushesFrame}
 use Rattle.dali_checkpoint.specs.Kept.{Checkpointed, header_at}
 use Rattle.dali_checkpoint.specs.Done.{Writes, FailsToWrite, HasStarted, HasTurnedTo, FailsToTurn}
 
-module _ {V : Type 0} (told : V → Option Disk) (may_leave : V → Disk → Type 0) (faults : V → ℕ) where
-  pub writes : (y : SystemState) (v mid w : Vaulted V) (f : FileName) (at : ℕ) (bytes : List ℕ) → FlushesFrame told may_leave faults y v mid → HasWritten told may_leave faults mid f at bytes w
-      → Writes told may_leave faults y v f at bytes w
+module _ {V : Type 0} (means : Ghosts V) where
+  pub writes : (y : SystemState) (v mid w : Vaulted V) (f : FileName) (at : ℕ) (bytes : List ℕ) → FlushesFrame means y v mid → HasWritten means mid f at bytes w
+      → Writes means y v f at bytes w
   writes y v mid w f at bytes a b = record { mid = mid; flushed = a; written = b }
 
-  pub write_fails : (y : SystemState) (v mid w : Vaulted V) (f : FileName) (at n : ℕ) → FlushesFrame told may_leave faults y v mid → WriteHasFailed told may_leave faults mid f at n w
-      → FailsToWrite told may_leave faults y v f at n w
+  pub write_fails : (y : SystemState) (v mid w : Vaulted V) (f : FileName) (at n : ℕ) → FlushesFrame means y v mid → WriteHasFailed means mid f at n w
+      → FailsToWrite means y v f at n w
   write_fails y v mid w f at n a b = inr (record { mid = mid; flushed = a; failed = b })
 
-  pub turns : (y : SystemState) (v mid late w : Vaulted V) (side : Side) → FlushesFrame told may_leave faults y v mid → HasSynced told may_leave faults mid (image_name side) late → HasTurned told may_leave faults late w
-      → HasTurnedTo told may_leave faults y v side w
+  pub turns : (y : SystemState) (v mid late w : Vaulted V) (side : Side) → FlushesFrame means y v mid → HasSynced means mid (image_name side) late → HasTurned means late w
+      → HasTurnedTo means y v side w
   turns y v mid late w side a b d = record { mid = mid; flushed = a; late = late; synced = b; turned = d }
 
-  pub sync_fails : (y : SystemState) (v mid w : Vaulted V) (side : Side) → FlushesFrame told may_leave faults y v mid → SyncHasFailed told may_leave faults mid w → FailsToTurn told may_leave faults y v side w
+  pub sync_fails : (y : SystemState) (v mid w : Vaulted V) (side : Side) → FlushesFrame means y v mid → SyncHasFailed means mid w → FailsToTurn means y v side w
   sync_fails y v mid w side a b = inr (inl (record { mid = mid; flushed = a; failed = b }))
 
-  pub turn_fails : (y : SystemState) (v mid late w : Vaulted V) (side : Side) → FlushesFrame told may_leave faults y v mid → HasSynced told may_leave faults mid (image_name side) late → TurnHasFailed told may_leave faults late w
-      → FailsToTurn told may_leave faults y v side w
+  pub turn_fails : (y : SystemState) (v mid late w : Vaulted V) (side : Side) → FlushesFrame means y v mid → HasSynced means mid (image_name side) late → TurnHasFailed means late w
+      → FailsToTurn means y v side w
   turn_fails y v mid late w side a b d = inr (inr (record { mid = mid; flushed = a; late = late; synced = b; failed = d }))
 
   -- the flag of a checkpoint is none of what a flush looks at
-  pub flushes_over : (y : SystemState) (b : Bool) (v w : Vaulted V) → FlushesFrame told may_leave faults (in_checkpoint y b) v w → FlushesFrame told may_leave faults y v w
+  pub flushes_over : (y : SystemState) (b : Bool) (v w : Vaulted V) → FlushesFrame means (in_checkpoint y b) v w → FlushesFrame means y v w
   flushes_over y b v w said = (said.0, record { body = said.1.body; records = said.1.records }, said.2)
 
-  pub started_over : (y : SystemState) (b : Bool) (v w : Vaulted V) (c : Checkpointed) → HasStarted told may_leave faults (in_checkpoint y b) v c w → HasStarted told may_leave faults y v c w
+  pub started_over : (y : SystemState) (b : Bool) (v w : Vaulted V) (c : Checkpointed) → HasStarted means (in_checkpoint y b) v c w → HasStarted means y v c w
   started_over y b v w c is = record {
     header = is.header;
     table = is.table;
@@ -46,7 +47,7 @@ module _ {V : Type 0} (told : V → Option Disk) (may_leave : V → Disk → Typ
     writes = record { mid = is.writes.mid; flushed = flushes_over y b v is.writes.mid is.writes.flushed; written = is.writes.written };
   }
 
-  pub fails_over : (y : SystemState) (b : Bool) (v w : Vaulted V) (f : FileName) (at n : ℕ) → FailsToWrite told may_leave faults (in_checkpoint y b) v f at n w → FailsToWrite told may_leave faults y v f at n w
+  pub fails_over : (y : SystemState) (b : Bool) (v w : Vaulted V) (f : FileName) (at n : ℕ) → FailsToWrite means (in_checkpoint y b) v f at n w → FailsToWrite means y v f at n w
   fails_over y b v w f at n said = ⊎_elim
       (λ a. inl (a.0, record { body = a.1.body; records = a.1.records }, a.2))
       (λ a. inr (record { mid = a.mid; flushed = flushes_over y b v a.mid a.flushed; failed = a.failed }))

@@ -8,13 +8,13 @@ use Rattle.dali_region.specs.declared.Side.TheVariants.{A, B}
 use Rattle.dali_region.specs.State.{RegionState}
 use Rattle.dali_region.specs.Answers.{is_dirty, cleaned}
 use Rattle.dali_store.specs.Store.{Files as Disk, file_of, Holds, HoldsIn}
-use Rattle.dali_traces.specs.Disks.{image_file, image_name}
-use Rattle.dali_traces.specs.Places.{place_of}
-use Rattle.dali_vault.specs.Vaulted.{Vaulted}
-use Rattle.dali_whole.specs.Cores.{HoldsPlaces}
-pub use Rattle.dali_whole.proofs.Lengths.{no_shorter_tells, same_length, torn_length, then_length, torn_unless_stopped, places_stay}
+use Rattle.dali_crash.specs.Disks.Disks.{image_file, image_name}
+use Rattle.dali_crash.specs.Disks.Places.{place_of}
+use Rattle.dali_core.specs.Vault.Vaulted.{Vaulted}
+use Rattle.dali_core.specs.Cores.{HoldsPlaces}
+pub use Rattle.dali_core.proofs.Lengths.{no_shorter_tells, same_length, torn_length, then_length, torn_unless_stopped, places_stay}
 use Rattle.dali_checkpoint.specs.Done.{Reaches}
-use Rattle.dali_whole.specs.Cores.{NoShorter}
+use Rattle.dali_core.specs.Cores.{NoShorter}
 use Rattle.dali_checkpoint.specs.Runs.{is_first_dirty, run_of, change}
 use Rattle.dali_checkpoint.proofs.Pieces.{change_cases, run_clean, run_length, run_some}
 use Rattle.dali_checkpoint.proofs.Results.{place_there}

@@ -2,17 +2,18 @@
 use Rattle.std.proofs.Common.{◌≡◌, ℕ, Bool, true, false, List, [], Option, refl, ap, sym, ◌∙◌}
 use Rattle.dali_region.specs.State.{RegionState}
 use Rattle.dali_store.specs.Store.{Files as Disk}
-use Rattle.dali_system.specs.State.{SystemState, VaultState, CoreState}
-use Rattle.dali_system.specs.Flushes.{frame_of}
-use Rattle.dali_system.specs.Courses.{AuditEnds}
-use Rattle.dali_parts.proofs.Vaults.{step_has_vault}
+use Rattle.dali_store.specs.declared.store.Store.{Ghosts}
+use Rattle.dali_runs.specs.State.{SystemState, VaultState, CoreState}
+use Rattle.dali_runs.specs.Flushes.{frame_of}
+use Rattle.dali_runs.specs.Courses.{AuditEnds}
+use Rattle.dali_runs.proofs.PartsLemmas.Vaults.{step_has_vault}
 use Rattle.dali_crash.specs.Checkpoints.{Does, Point, is_of_checkpoint, target}
 use Rattle.dali_crash.proofs.Flags.{flag_changes}
-use Rattle.dali_steps.specs.Called.{KeepsImage}
-use Rattle.dali_steps.specs.Courses.{calls_none}
-use Rattle.dali_steps.proofs.Courses.{came_same, vault_same, both_true}
-use Rattle.dali_steps.proofs.Steps.{quiet_goes, quiet_keeps}
-use Rattle.dali_whole.specs.Cores.{IsCoreAt}
+use Rattle.dali_core.specs.Steps.Called.{KeepsImage}
+use Rattle.dali_core.specs.Steps.Courses.{calls_none}
+use Rattle.dali_core.proofs.StepsLemmas.Courses.{came_same, vault_same, both_true}
+use Rattle.dali_core.proofs.StepsLemmas.Steps.{quiet_goes, quiet_keeps}
+use Rattle.dali_core.specs.Cores.{IsCoreAt}
 use Rattle.dali_geometry.specs.Sizes.{Sizes}
 use Rattle.dali_geometry.specs.Places.{regions}
 use Rattle.std.proofs.Common.{length, subst, arith}
@@ -21,8 +22,8 @@ use Rattle.dali_checkpoint.specs.Laws.{OthersKeep, AuditsTell}
 use Rattle.dali_checkpoint.proofs.Stays.{Stays, does_stays, is_of_on, all_copied_on, same_target}
 use Rattle.dali_checkpoint.proofs.Audited.{passes_go_on, begins_telling, ends_clean, certified_on}
 
-module _ {V : Type 0} (told : V → Option Disk) (may_leave : V → Disk → Type 0) (faults : V → ℕ) where
-  pub others_keep : OthersKeep told may_leave faults
+module _ {V : Type 0} (means : Ghosts V) where
+  pub others_keep : OthersKeep means
   others_keep s B p q v x quiet step taken = record {
     idle = λ gs y k. record { at = core gs y k.at; flag = flag y k.at.system k.flag; begun = stay.begun ∙ k.begun };
     copying = λ gs y c h k. record {
@@ -55,14 +56,14 @@ module _ {V : Type 0} (told : V → Option Disk) (may_leave : V → Disk → Typ
       stay : Stays p q
       stay = does_stays p q x step (ap (λ (u : VaultState). u.current) same)
 
-      keeps : KeepsImage told may_leave faults p q v.store v.store
-      keeps = quiet_keeps told may_leave faults p q (Does x) v.store step refl same
+      keeps : KeepsImage means p q v.store v.store
+      keeps = quiet_keeps means p q (Does x) v.store step refl same
 
-      core : (gs : List RegionState) (y : SystemState) → IsCoreAt told may_leave faults s B p gs y v → IsCoreAt told may_leave faults s B q q.core.regions q.core.system v
+      core : (gs : List RegionState) (y : SystemState) → IsCoreAt means s B p gs y v → IsCoreAt means s B q q.core.regions q.core.system v
       core gs y at = record {
         regions = refl;
         system = refl;
-        vault = quiet_goes told may_leave faults s B p q (Does x) v at.vault step refl (came_same p.log p.core x calm.1) same;
+        vault = quiet_goes means s B p q (Does x) v at.vault step refl (came_same p.log p.core x calm.1) same;
         none_in_hand = λ runs. at.none_in_hand runs ∙ (ap (λ (z : SystemState). z.taken) (sym at.system) ∙ sym taken);
       }
 

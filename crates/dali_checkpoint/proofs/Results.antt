@@ -12,15 +12,15 @@ use Rattle.dali_region.specs.State.{RegionState, checked}
 use Rattle.dali_region.specs.Answers.{is_dirty, cleaned}
 use Rattle.dali_store.specs.Store.{Files as Disk}
 use Rattle.dali_store.specs.Faults.{Rose}
-use Rattle.dali_system.specs.State.{SystemState, VaultState, hold_in, state_in}
-use Rattle.dali_system.specs.Regions.{is_alive}
-use Rattle.dali_system.specs.Wholes.{IsWhole, AreOfKind, latched_in}
-use Rattle.dali_traces.specs.Disks.{image_file}
-use Rattle.dali_traces.specs.Places.{place_of}
-use Rattle.dali_vault.specs.Vaulted.{Vaulted, with_store}
+use Rattle.dali_runs.specs.State.{SystemState, VaultState, hold_in, state_in}
+use Rattle.dali_runs.specs.Regions.{is_alive}
+use Rattle.dali_runs.specs.Wholes.{IsWhole, AreOfKind, latched_in}
+use Rattle.dali_crash.specs.Disks.Disks.{image_file}
+use Rattle.dali_crash.specs.Disks.Places.{place_of}
+use Rattle.dali_core.specs.Vault.Vaulted.{Vaulted, with_store}
 use Rattle.dali_audit.specs.declared.audit.Finding.TheVariants.{Clean, Damaged}
 use Rattle.dali_audit.specs.Findings.{damaged, is_passed, AllPassed}
-use Rattle.dali_whole.specs.Cores.{HoldsPlaces, IsWholeCore}
+use Rattle.dali_core.specs.Cores.{HoldsPlaces, IsWholeCore}
 use Rattle.dali_checkpoint.specs.declared.error.CheckpointError.{CheckpointError}
 use Rattle.dali_checkpoint.specs.declared.error.CheckpointError.TheVariants.{Stopped as StoppedBy}
 use Rattle.dali_checkpoint.specs.Kept.{cause_in, cause_of}
@@ -28,8 +28,9 @@ use Rattle.dali_checkpoint.specs.Done.{Writes, FailsToWrite, FailsToTurn}
 use Rattle.dali_checkpoint.specs.Making.{found_in, failing_in, copied_to, hold_on, SameTable}
 use Rattle.dali_checkpoint.proofs.Walks.{same_length as same_mapped, map_same}
 use Rattle.dali_store.specs.declared.store.FileName.{FileName}
-use Rattle.dali_system.specs.declared.causes.Cause.{Cause}
-use Rattle.dali_system.specs.Steps.{store_stopped, stopped_by}
+use Rattle.dali_store.specs.declared.store.Store.{Ghosts}
+use Rattle.dali_runs.specs.declared.causes.Cause.{Cause}
+use Rattle.dali_runs.specs.Steps.{store_stopped, stopped_by}
 
 -- ---- what a copy and a check leave of a region
 pub found_cleaned : (side : Side) (g : RegionState) → found_in (cleaned side g) ≡ found_in g
@@ -112,39 +113,39 @@ pub whole_behind : {V : Type 0} (told : V → Option Disk) (gs hs : List RegionS
 whole_behind told gs hs y z v w holds same places whole = record { parts = λ u. whole_over gs hs y z u holds same (whole.parts u); files = places }
 
 -- ---- what a flush and a write leave of the vault
-module _ {V : Type 0} (told : V → Option Disk) (may_leave : V → Disk → Type 0) (faults : V → ℕ) where
-  pub writes_vault : (y : SystemState) (v w : Vaulted V) (f : FileName) (at : ℕ) (bytes : List ℕ) → Writes told may_leave faults y v f at bytes w → (w.current ≡ v.current) × (w.stopped ≡ false)
+module _ {V : Type 0} (means : Ghosts V) where
+  pub writes_vault : (y : SystemState) (v w : Vaulted V) (f : FileName) (at : ℕ) (bytes : List ℕ) → Writes means y v f at bytes w → (w.current ≡ v.current) × (w.stopped ≡ false)
   writes_vault y v w f at bytes said = (ap (λ (x : Vaulted V). x.current) said.written.vault ∙ ap (λ (x : Vaulted V). x.current) said.flushed.2.vault, said.written.ok.runs)
 
-  pub write_stops : (y : SystemState) (v w : Vaulted V) (f : FileName) (at n : ℕ) → FailsToWrite told may_leave faults y v f at n w → w.stopped ≡ true
+  pub write_stops : (y : SystemState) (v w : Vaulted V) (f : FileName) (at n : ℕ) → FailsToWrite means y v f at n w → w.stopped ≡ true
   write_stops y v w f at n (inl said) = ap (λ (x : Vaulted V). x.stopped) said.2.vault
   write_stops y v w f at n (inr said) = ap (λ (x : Vaulted V). x.stopped) said.failed.vault
 
-  pub writes_kept : (y : SystemState) (v w : Vaulted V) (f : FileName) (at : ℕ) (bytes : List ℕ) → Writes told may_leave faults y v f at bytes w → faults w.store ≡ faults v.store
+  pub writes_kept : (y : SystemState) (v w : Vaulted V) (f : FileName) (at : ℕ) (bytes : List ℕ) → Writes means y v f at bytes w → means.faults w.store ≡ means.faults v.store
   writes_kept y v w f at bytes said = said.written.ok.kept ∙ said.flushed.2.ok.kept
 
-  pub write_current : (y : SystemState) (v w : Vaulted V) (f : FileName) (at n : ℕ) → FailsToWrite told may_leave faults y v f at n w → w.current ≡ v.current
+  pub write_current : (y : SystemState) (v w : Vaulted V) (f : FileName) (at n : ℕ) → FailsToWrite means y v f at n w → w.current ≡ v.current
   write_current y v w f at n (inl said) = ap (λ (x : Vaulted V). x.current) said.2.vault
   write_current y v w f at n (inr said) = ap (λ (x : Vaulted V). x.current) said.failed.vault ∙ ap (λ (x : Vaulted V). x.current) said.flushed.2.vault
 
-  pub write_rose : (y : SystemState) (v w : Vaulted V) (f : FileName) (at n : ℕ) → FailsToWrite told may_leave faults y v f at n w → Rose (faults v.store) (faults w.store)
+  pub write_rose : (y : SystemState) (v w : Vaulted V) (f : FileName) (at n : ℕ) → FailsToWrite means y v f at n w → Rose (means.faults v.store) (means.faults w.store)
   write_rose y v w f at n (inl said) = said.2.rose
-  write_rose y v w f at n (inr said) = subst (λ m. Rose m (faults w.store)) said.flushed.2.ok.kept said.failed.rose
+  write_rose y v w f at n (inr said) = subst (λ m. Rose m (means.faults w.store)) said.flushed.2.ok.kept said.failed.rose
 
-  pub turn_stops : (y : SystemState) (v w : Vaulted V) (side : Side) → FailsToTurn told may_leave faults y v side w → w.stopped ≡ true
+  pub turn_stops : (y : SystemState) (v w : Vaulted V) (side : Side) → FailsToTurn means y v side w → w.stopped ≡ true
   turn_stops y v w side (inl said) = ap (λ (x : Vaulted V). x.stopped) said.2.vault
   turn_stops y v w side (inr (inl said)) = ap (λ (x : Vaulted V). x.stopped) said.failed.vault
   turn_stops y v w side (inr (inr said)) = ap (λ (x : Vaulted V). x.stopped) said.failed.vault
 
-  pub turn_current : (y : SystemState) (v w : Vaulted V) (side : Side) → FailsToTurn told may_leave faults y v side w → w.current ≡ v.current
+  pub turn_current : (y : SystemState) (v w : Vaulted V) (side : Side) → FailsToTurn means y v side w → w.current ≡ v.current
   turn_current y v w side (inl said) = ap (λ (x : Vaulted V). x.current) said.2.vault
   turn_current y v w side (inr (inl said)) = ap (λ (x : Vaulted V). x.current) said.failed.vault ∙ ap (λ (x : Vaulted V). x.current) said.flushed.2.vault
   turn_current y v w side (inr (inr said)) = ap (λ (x : Vaulted V). x.current) said.failed.vault ∙ (ap (λ (x : Vaulted V). x.current) said.synced.vault ∙ ap (λ (x : Vaulted V). x.current) said.flushed.2.vault)
 
-  pub turn_rose : (y : SystemState) (v w : Vaulted V) (side : Side) → FailsToTurn told may_leave faults y v side w → Rose (faults v.store) (faults w.store)
+  pub turn_rose : (y : SystemState) (v w : Vaulted V) (side : Side) → FailsToTurn means y v side w → Rose (means.faults v.store) (means.faults w.store)
   turn_rose y v w side (inl said) = said.2.rose
-  turn_rose y v w side (inr (inl said)) = subst (λ m. Rose m (faults w.store)) said.flushed.2.ok.kept said.failed.rose
-  turn_rose y v w side (inr (inr said)) = subst (λ m. Rose m (faults w.store)) (said.synced.ok.kept ∙ said.flushed.2.ok.kept) said.failed.rose
+  turn_rose y v w side (inr (inl said)) = subst (λ m. Rose m (means.faults w.store)) said.flushed.2.ok.kept said.failed.rose
+  turn_rose y v w side (inr (inr said)) = subst (λ m. Rose m (means.faults w.store)) (said.synced.ok.kept ∙ said.flushed.2.ok.kept) said.failed.rose
 
 pub has_cause : {V : Type 0} (y : SystemState) (v : Vaulted V) → y.stop ≡ None → v.stopped ≡ false → cause_of y v ≡ None
 has_cause y v e f = ap (λ o. cause_in o v.stopped) e ∙ ap (cause_in None) f

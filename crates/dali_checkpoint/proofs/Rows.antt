@@ -21,9 +21,9 @@ use Rattle.dali_record.proofs.Batches.{number_is_length}
 use Rattle.dali_history.proofs.Members.{has-filter, has-filter_from}
 use Rattle.dali_history.proofs.Ascending.{begun_ascends}
 use Rattle.dali_history.proofs.Rising.{keys_up, has_keys}
-use Rattle.dali_system.specs.State.{TxnRow, CoreState}
-use Rattle.dali_system.specs.Run.{Bases, RunsOn, is_committed}
-use Rattle.dali_facts.proofs.Begun.{holds_the_begun}
+use Rattle.dali_runs.specs.State.{TxnRow, CoreState}
+use Rattle.dali_runs.specs.Run.{Bases, RunsOn, is_committed}
+use Rattle.dali_runs.proofs.FactsLemmas.Begun.{holds_the_begun}
 use Rattle.dali_during.specs.Reported.{kept_row}
 use Rattle.dali_during.proofs.Premises.{last_in}
 use Rattle.dali_during.proofs.Ascends.{same_increasing}

@@ -5,10 +5,10 @@ use Rattle.std.proofs.lemmas.Bool.{or_left}
 use Rattle.dali_lists.proofs.Lists.{get_front}
 use Rattle.dali_record.specs.declared.records.Record.{Record}
 use Rattle.dali_region.specs.declared.Side.{Side}
-use Rattle.dali_system.specs.State.{CoreState}
-use Rattle.dali_system.specs.Flushes.{frame_of}
-use Rattle.dali_system.specs.Courses.{Step, Takes, Flushes}
-use Rattle.dali_system.proofs.Courses.{Goes, step_goes}
+use Rattle.dali_runs.specs.State.{CoreState}
+use Rattle.dali_runs.specs.Flushes.{frame_of}
+use Rattle.dali_runs.specs.Courses.{Step, Takes, Flushes}
+use Rattle.dali_runs.proofs.Courses.{Goes, step_goes}
 use Rattle.dali_crash.specs.Checkpoints.{Head, Copy, Does, Point, target, side_of, pass_copy, passes_region, IsPointStep, IsPointCourse, moment_of}
 use Rattle.dali_crash.proofs.StepLeaves.{longer_parts}
 use Rattle.dali_image.specs.Laws.{header_of}

@@ -13,13 +13,14 @@ use Rattle.dali_store.specs.declared.store.FileName.{FileName}
 use Rattle.dali_store.specs.Store.{Files as Disk}
 use Rattle.dali_store.specs.Calls.{fewer}
 use Rattle.dali_store.specs.Faults.{Rose}
-use Rattle.dali_system.specs.State.{SystemState}
-use Rattle.dali_system.specs.Steps.{taken, store_stopped, in_checkpoint}
-use Rattle.dali_traces.specs.Disks.{image_file, image_name, table_bytes}
-use Rattle.dali_traces.specs.Places.{place_of}
-use Rattle.dali_vault.specs.Vaulted.{Vaulted}
-use Rattle.dali_steps.specs.Said.{HasWritten, WriteHasFailed, HasSynced, SyncHasFailed, HasTurned, TurnHasFailed}
-use Rattle.dali_whole.specs.Flushed.{FlushesFrame, FailsFrame}
+use Rattle.dali_store.specs.declared.store.Store.{Ghosts}
+use Rattle.dali_runs.specs.State.{SystemState}
+use Rattle.dali_runs.specs.Steps.{taken, store_stopped, in_checkpoint}
+use Rattle.dali_crash.specs.Disks.Disks.{image_file, image_name, table_bytes}
+use Rattle.dali_crash.specs.Disks.Places.{place_of}
+use Rattle.dali_core.specs.Vault.Vaulted.{Vaulted}
+use Rattle.dali_core.specs.Steps.Said.{HasWritten, WriteHasFailed, HasSynced, SyncHasFailed, HasTurned, TurnHasFailed}
+use Rattle.dali_core.specs.Flushed.{FlushesFrame, FailsFrame}
 use Rattle.dali_image.specs.Headers.{heading}
 use Rattle.dali_image.specs.Rows.{rows_of}
 use Rattle.dali_checkpoint.specs.Kept.{Checkpointed, side_in, header_at, cause_of}
@@ -33,20 +34,20 @@ pub record CallsStore {V T : Type 0} (faults : V → ℕ) (lets_pass : V → Opt
   pub calls : OnOk r (lets_pass w ≡ fewer n (lets_pass v))
   pub rose : IsErrOf r Fault → Rose (faults v) (faults w)
 
-module _ {V : Type 0} (told : V → Option Disk) (may_leave : V → Disk → Type 0) (faults : V → ℕ) where
+module _ {V : Type 0} (means : Ghosts V) where
   -- ---- a flush and a write
   pub record Writes (y : SystemState) (v : Vaulted V) (f : FileName) (at : ℕ) (bytes : List ℕ) (w : Vaulted V) : Type 0 where
     pub mid : Vaulted V
-    pub flushed : FlushesFrame told may_leave faults y v mid
-    pub written : HasWritten told may_leave faults mid f at bytes w
+    pub flushed : FlushesFrame means y v mid
+    pub written : HasWritten means mid f at bytes w
 
   pub record WriteFails (y : SystemState) (v : Vaulted V) (f : FileName) (at n : ℕ) (w : Vaulted V) : Type 0 where
     pub mid : Vaulted V
-    pub flushed : FlushesFrame told may_leave faults y v mid
-    pub failed : WriteHasFailed told may_leave faults mid f at n w
+    pub flushed : FlushesFrame means y v mid
+    pub failed : WriteHasFailed means mid f at n w
 
   abbrev pub FailsToWrite : SystemState → Vaulted V → FileName → ℕ → ℕ → Vaulted V → Type 0
-  FailsToWrite y v f at n w = FailsFrame told may_leave faults y v w ⊎ WriteFails y v f at n w
+  FailsToWrite y v f at n w = FailsFrame means y v w ⊎ WriteFails y v f at n w
 
   -- the header is written to the file of the image that isn't the current one
   pub record HasStarted (y : SystemState) (v : Vaulted V) (c : Checkpointed) (w : Vaulted V) : Type 0 where
@@ -60,37 +61,37 @@ module _ {V : Type 0} (told : V → Option Disk) (may_leave : V → Disk → Typ
   -- ---- a flush, a sync and the anchor's move
   pub record HasTurnedTo (y : SystemState) (v : Vaulted V) (side : Side) (w : Vaulted V) : Type 0 where
     pub mid : Vaulted V
-    pub flushed : FlushesFrame told may_leave faults y v mid
+    pub flushed : FlushesFrame means y v mid
     pub late : Vaulted V
-    pub synced : HasSynced told may_leave faults mid (image_name side) late
-    pub turned : HasTurned told may_leave faults late w
+    pub synced : HasSynced means mid (image_name side) late
+    pub turned : HasTurned means late w
 
   pub record SyncFails (y : SystemState) (v : Vaulted V) (w : Vaulted V) : Type 0 where
     pub mid : Vaulted V
-    pub flushed : FlushesFrame told may_leave faults y v mid
-    pub failed : SyncHasFailed told may_leave faults mid w
+    pub flushed : FlushesFrame means y v mid
+    pub failed : SyncHasFailed means mid w
 
   pub record TurnFails (y : SystemState) (v : Vaulted V) (side : Side) (w : Vaulted V) : Type 0 where
     pub mid : Vaulted V
-    pub flushed : FlushesFrame told may_leave faults y v mid
+    pub flushed : FlushesFrame means y v mid
     pub late : Vaulted V
-    pub synced : HasSynced told may_leave faults mid (image_name side) late
-    pub failed : TurnHasFailed told may_leave faults late w
+    pub synced : HasSynced means mid (image_name side) late
+    pub failed : TurnHasFailed means late w
 
   abbrev pub FailsToTurn : SystemState → Vaulted V → Side → Vaulted V → Type 0
-  FailsToTurn y v side w = FailsFrame told may_leave faults y v w ⊎ (SyncFails y v w ⊎ TurnFails y v side w)
+  FailsToTurn y v side w = FailsFrame means y v w ⊎ (SyncFails y v w ⊎ TurnFails y v side w)
 
   -- ---- a flush behind an audit that failed
   -- what it logged was taken by another, or is flushed now
   abbrev pub IsKept : SystemState → Vaulted V → SystemState → Vaulted V → Type 0
   IsKept y v z w =
       ((drop y.taken y.since ≡ []) × (w ≡ v) × (z ≡ in_checkpoint y false))
-      ⊎ ((v.stopped ≡ false) × FlushesFrame told may_leave faults y v w × (z ≡ in_checkpoint (taken y) false))
+      ⊎ ((v.stopped ≡ false) × FlushesFrame means y v w × (z ≡ in_checkpoint (taken y) false))
 
   -- or the vault was stopped before, or its flush met a fault
   abbrev pub IsLost : SystemState → Vaulted V → SystemState → Vaulted V → CheckpointError → Type 0
   IsLost y v z w (Stopped cause) = (cause_of y v ≡ Some cause) × (v.stopped ≡ true) × (w ≡ v) × (z ≡ in_checkpoint y false)
-  IsLost y v z w Fault = (v.stopped ≡ false) × FailsFrame told may_leave faults y v w × (z ≡ in_checkpoint (store_stopped (taken y)) false)
+  IsLost y v z w Fault = (v.stopped ≡ false) × FailsFrame means y v w × (z ≡ in_checkpoint (store_stopped (taken y)) false)
   IsLost y v z w e = ⊥
 
   abbrev pub HasEnded : SystemState → Vaulted V → SystemState → Vaulted V → Type 0

@@ -7,12 +7,12 @@
 --     given_up b y             the system behind a checkpoint that is given up, where a call of the store failed or didn't
 use Rattle.std.specs.Prelude.{ℕ, ◌+◌, ◌≤◌, Bool, true, false, List, Option, Some, None, Contains}
 use Rattle.dali_region.specs.declared.Side.{Side}
-use Rattle.dali_system.specs.declared.causes.Cause.{Cause}
-use Rattle.dali_system.specs.declared.causes.Cause.TheVariants.{Store}
-use Rattle.dali_system.specs.State.{SystemState}
-use Rattle.dali_system.specs.Steps.{store_stopped, in_checkpoint, audit_record}
+use Rattle.dali_runs.specs.declared.causes.Cause.{Cause}
+use Rattle.dali_runs.specs.declared.causes.Cause.TheVariants.{Store}
+use Rattle.dali_runs.specs.State.{SystemState}
+use Rattle.dali_runs.specs.Steps.{store_stopped, in_checkpoint, audit_record}
 use Rattle.dali_crash.specs.Checkpoints.{side_of}
-use Rattle.dali_vault.specs.Vaulted.{Vaulted}
+use Rattle.dali_core.specs.Vault.Vaulted.{Vaulted}
 use Rattle.dali_audit.specs.Findings.{Judged}
 use Rattle.dali_image.specs.declared.header.Header.{Header}
 

@@ -19,21 +19,22 @@ use Rattle.dali_region.specs.Answers.{cleaned}
 use Rattle.dali_store.specs.Store.{Files as Disk}
 use Rattle.dali_store.specs.Calls.{fewer}
 use Rattle.dali_store.specs.Faults.{Rose}
-use Rattle.dali_system.specs.State.{SystemState}
-use Rattle.dali_system.specs.Steps.{taken, in_checkpoint, audit_begun, audit_ended}
-use Rattle.dali_core.specs.Audits.{audit_refusal}
-use Rattle.dali_core.specs.declared.error.SystemError.{SystemError}
-use Rattle.dali_core.specs.declared.error.SystemError.TheVariants.{Stopped as SystemStopped, LogFull as SystemFull, OutOfMemory as SystemMemory}
+use Rattle.dali_runs.specs.State.{SystemState}
+use Rattle.dali_runs.specs.Steps.{taken, in_checkpoint, audit_begun, audit_ended}
+use Rattle.dali_system.specs.Audits.{audit_refusal}
+use Rattle.dali_system.specs.declared.error.SystemError.{SystemError}
+use Rattle.dali_system.specs.declared.error.SystemError.TheVariants.{Stopped as SystemStopped, LogFull as SystemFull, OutOfMemory as SystemMemory}
 use Rattle.dali_audit.specs.declared.audit.Finding.{Finding}
 use Rattle.dali_audit.specs.Findings.{Judged, finding_of, damaged}
 use Rattle.dali_crash.specs.Checkpoints.{Head, StoreStep, Point, IsPointCourse, side_of}
 use Rattle.dali_crash.specs.Traces.{Start}
 use Rattle.dali_record.specs.Files.{Files}
-use Rattle.dali_traces.specs.Disks.{Spells}
-use Rattle.dali_traces.specs.Bridges.{LeavesRightAt}
-use Rattle.dali_vault.specs.Vaulted.{Vaulted, with_store}
-use Rattle.dali_whole.specs.Cores.{HoldsPlaces, IsWholeCore}
-use Rattle.dali_whole.specs.Moments.{flush_calls, Within}
+use Rattle.dali_store.specs.declared.store.Store.{Ghosts}
+use Rattle.dali_crash.specs.Disks.Disks.{Spells}
+use Rattle.dali_crash.specs.Disks.Bridges.{LeavesRightAt}
+use Rattle.dali_core.specs.Vault.Vaulted.{Vaulted, with_store}
+use Rattle.dali_core.specs.Cores.{HoldsPlaces, IsWholeCore}
+use Rattle.dali_core.specs.Moments.{flush_calls, Within}
 use Rattle.dali_checkpoint.specs.Kept.{Checkpointed, side_in, cause_of}
 use Rattle.dali_checkpoint.specs.Done.{Reaches}
 use Rattle.dali_checkpoint.specs.Runs.{runs_in}
@@ -90,48 +91,48 @@ module _ {V : Type 0} (faults : V → ℕ) (gs : List RegionState) (y : SystemSt
   HasNotMade Fault hs z w = HasRun z w × (w.stopped ≡ true) × IsSome z.stop × Rose (faults v.store) (faults w.store) × (SameLog y z ⊎ SameLog (with_audit y (failing_in gs)) z)
 
 -- ---- as steps of a run
-module _ {V : Type 0} (told : V → Option Disk) (may_leave : V → Disk → Type 0) (faults : V → ℕ) where
+module _ {V : Type 0} (means : Ghosts V) where
   pub record IdleAgain (s : Start) (p : Point) (hs : List RegionState) (z : SystemState) (w : Vaulted V) : Type 0 where
     pub to : Point
     pub batches : List (List Record)
     pub steps : List StoreStep
     pub course : IsPointCourse p steps to
-    pub is : IsIdle told may_leave faults s batches to hs z w
+    pub is : IsIdle means s batches to hs z w
 
   abbrev pub LeadsIdle : List RegionState → SystemState → Vaulted V → List RegionState → SystemState → Vaulted V → Type 0
-  LeadsIdle gs y v hs z w = (s : Start) (B : List (List Record)) (p : Point) → IsIdle told may_leave faults s B p gs y v → IdleAgain s p hs z w
+  LeadsIdle gs y v hs z w = (s : Start) (B : List (List Record)) (p : Point) → IsIdle means s B p gs y v → IdleAgain s p hs z w
 
   -- the copies
   pub record CopiedAll (s : Start) (B : List (List Record)) (p : Point) (hs : List RegionState) (y : SystemState) (w : Vaulted V) (c : Checkpointed) (h : Head) : Type 0 where
     pub to : Point
     pub steps : List StoreStep
     pub course : IsPointCourse p steps to
-    pub is : IsCopying told may_leave faults s B to hs y w c h
+    pub is : IsCopying means s B to hs y w c h
 
   abbrev pub CopiesGo : List RegionState → Vaulted V → Checkpointed → List RegionState → Vaulted V → Checkpointed → Type 0
   CopiesGo gs v c hs w d =
-      (s : Start) (B : List (List Record)) (p : Point) (y : SystemState) (h : Head) → IsCopying told may_leave faults s B p gs y v c h → CopiedAll s B p hs y w d h
+      (s : Start) (B : List (List Record)) (p : Point) (y : SystemState) (h : Head) → IsCopying means s B p gs y v c h → CopiedAll s B p hs y w d h
 
   abbrev pub CopiesFail : List RegionState → Vaulted V → Checkpointed → List RegionState → Vaulted V → Type 0
-  CopiesFail gs v c hs w = (s : Start) (B : List (List Record)) (p : Point) (y : SystemState) (h : Head) → IsCopying told may_leave faults s B p gs y v c h → Ends told may_leave faults s p hs y w
+  CopiesFail gs v c hs w = (s : Start) (B : List (List Record)) (p : Point) (y : SystemState) (h : Head) → IsCopying means s B p gs y v c h → Ends means s p hs y w
 
   -- the audit
   pub record AuditedAll (s : Start) (B : List (List Record)) (p : Point) (hs : List RegionState) (z : SystemState) (v : Vaulted V) (c : Checkpointed) (h : Head) (n b : ℕ) (found : List ℕ) : Type 0 where
     pub to : Point
     pub steps : List StoreStep
     pub course : IsPointCourse p steps to
-    pub is : IsSettled told may_leave faults s B to hs z v c h n
+    pub is : IsSettled means s B to hs z v c h n
     pub certified : found ≡ [] → IsCertifiedAt to n b
 
   abbrev pub AuditGoes : List RegionState → SystemState → List RegionState → SystemState → List ℕ → Type 0
   AuditGoes gs y hs z found =
-      (s : Start) (B : List (List Record)) (p : Point) (v : Vaulted V) (c : Checkpointed) (h : Head) (n : ℕ) → IsSettled told may_leave faults s B p gs y v c h n
+      (s : Start) (B : List (List Record)) (p : Point) (v : Vaulted V) (c : Checkpointed) (h : Head) (n : ℕ) → IsSettled means s B p gs y v c h n
       → AuditedAll s B p hs z v c h n y.records found
 
   abbrev pub AuditFails : List RegionState → SystemState → List RegionState → SystemState → Type 0
   AuditFails gs y hs z =
-      (s : Start) (B : List (List Record)) (p : Point) (v : Vaulted V) (c : Checkpointed) (h : Head) (n : ℕ) → IsSettled told may_leave faults s B p gs y v c h n
-      → Ends told may_leave faults s p hs z v
+      (s : Start) (B : List (List Record)) (p : Point) (v : Vaulted V) (c : Checkpointed) (h : Head) (n : ℕ) → IsSettled means s B p gs y v c h n
+      → Ends means s p hs z v
 
   -- the whole image, and its audit
   pub record ImageMade (s : Start) (p : Point) (hs : List RegionState) (z : SystemState) (w : Vaulted V) (c : Checkpointed) (h : Head) (n : ℕ) (found : List ℕ) : Type 0 where
@@ -139,15 +140,15 @@ module _ {V : Type 0} (told : V → Option Disk) (may_leave : V → Disk → Typ
     pub batches : List (List Record)
     pub steps : List StoreStep
     pub course : IsPointCourse p steps to
-    pub is : IsSettled told may_leave faults s batches to hs z w c h n
+    pub is : IsSettled means s batches to hs z w c h n
     pub certified : found ≡ [] → IsCertifiedAt to n n
 
   abbrev pub ImageGoes : List RegionState → SystemState → Vaulted V → Checkpointed → List RegionState → SystemState → Vaulted V → Checkpointed → List ℕ → Type 0
   ImageGoes gs y v c hs z w d found =
-      (s : Start) (B : List (List Record)) (p : Point) (h : Head) → IsCopying told may_leave faults s B p gs y v c h → ImageMade s p hs z w d h y.records found
+      (s : Start) (B : List (List Record)) (p : Point) (h : Head) → IsCopying means s B p gs y v c h → ImageMade s p hs z w d h y.records found
 
   abbrev pub ImageFails : List RegionState → SystemState → Vaulted V → Checkpointed → List RegionState → SystemState → Vaulted V → Type 0
-  ImageFails gs y v c hs z w = (s : Start) (B : List (List Record)) (p : Point) (h : Head) → IsCopying told may_leave faults s B p gs y v c h → Ends told may_leave faults s p hs z w
+  ImageFails gs y v c hs z w = (s : Start) (B : List (List Record)) (p : Point) (h : Head) → IsCopying means s B p gs y v c h → Ends means s p hs z w
 
 -- ---- a crash inside it
 pub record IsRightOnward (s : Start) (p : Point) (F : Files) : Type 0 where
@@ -159,18 +160,18 @@ pub record IsRightOnward (s : Start) (p : Point) (F : Files) : Type 0 where
 abbrev pub SpellsOnward : Start → Point → Disk → Type 0
 SpellsOnward s p c = (F : Files) × Spells c F × IsRightOnward s p F
 
-module _ {V : Type 0} (told : V → Option Disk) (may_leave : V → Disk → Type 0) (faults : V → ℕ) (moment : V → ℕ) (left_since : V → ℕ → Disk → Type 0) where
+module _ {V : Type 0} (means : Ghosts V) where
   abbrev pub StaysRight : List RegionState → SystemState → Vaulted V → Vaulted V → Type 0
   StaysRight gs y v w =
-      v.stopped ≡ false → (s : Start) (B : List (List Record)) (p : Point) → IsIdle told may_leave faults s B p gs y v → Within told moment left_since v w (SpellsOnward s p)
+      v.stopped ≡ false → (s : Start) (B : List (List Record)) (p : Point) → IsIdle means s B p gs y v → Within means.told means.moment means.left_since v w (SpellsOnward s p)
 
   abbrev pub CopiesStayRight : List RegionState → Vaulted V → Checkpointed → Vaulted V → Type 0
   CopiesStayRight gs v c w =
-      v.stopped ≡ false → (s : Start) (B : List (List Record)) (p : Point) (y : SystemState) (h : Head) → IsCopying told may_leave faults s B p gs y v c h → Within told moment left_since v w (SpellsOnward s p)
+      v.stopped ≡ false → (s : Start) (B : List (List Record)) (p : Point) (y : SystemState) (h : Head) → IsCopying means s B p gs y v c h → Within means.told means.moment means.left_since v w (SpellsOnward s p)
 
   abbrev pub ImageStaysRight : List RegionState → SystemState → Vaulted V → Checkpointed → Vaulted V → Type 0
   ImageStaysRight gs y v c w =
-      v.stopped ≡ false → (s : Start) (B : List (List Record)) (p : Point) (h : Head) → IsCopying told may_leave faults s B p gs y v c h → Within told moment left_since v w (SpellsOnward s p)
+      v.stopped ≡ false → (s : Start) (B : List (List Record)) (p : Point) (h : Head) → IsCopying means s B p gs y v c h → Within means.told means.moment means.left_since v w (SpellsOnward s p)
 
 -- ---- what each part leaves
 abbrev pub hold_on : RegionState → Option Hold
@@ -185,17 +186,17 @@ AuditLeft gs y hs z = ((hs ≡ gs) × (z ≡ y)) ⊎ ((audit_refusal y AuditBegi
 abbrev pub AuditRefused : SystemState → SystemError → Type 0
 AuditRefused y e = (audit_refusal y AuditBegin ≡ Some e) ⊎ ((audit_refusal y AuditBegin ≡ None) × (e ≡ SystemMemory))
 
-module _ {V : Type 0} (told : V → Option Disk) (may_leave : V → Disk → Type 0) (faults : V → ℕ) (lets_pass : V → Option ℕ) where
+module _ {V : Type 0} (means : Ghosts V) where
   pub record HasCopied (c : Checkpointed) (gs : List RegionState) (v : Vaulted V) (d : Checkpointed) (hs : List RegionState) (w : Vaulted V) : Type 0 where
     pub checkpoint : d ≡ record c { copied = length gs }
     pub regions : hs ≡ copied_to (side_in c) gs
     pub vault : w ≡ with_store v w.store
-    pub kept : faults w.store ≡ faults v.store
-    pub tells : is_some (told w.store) ≡ is_some (told v.store)
-    pub reaches : Reaches told (side_in c) (length gs) w
-    pub places : IfSome (told w.store) (HoldsPlaces hs)
-    pub calls : lets_pass w.store ≡ fewer (runs_in (side_in c) gs) (lets_pass v.store)
-    pub goes : CopiesGo told may_leave faults gs v c hs w d
+    pub kept : means.faults w.store ≡ means.faults v.store
+    pub tells : is_some (means.told w.store) ≡ is_some (means.told v.store)
+    pub reaches : Reaches means.told (side_in c) (length gs) w
+    pub places : IfSome (means.told w.store) (HoldsPlaces hs)
+    pub calls : means.lets_pass w.store ≡ fewer (runs_in (side_in c) gs) (means.lets_pass v.store)
+    pub goes : CopiesGo means gs v c hs w d
 
   pub record HasImage (gs : List RegionState) (y : SystemState) (v : Vaulted V) (c : Checkpointed) (j : Judged) (hs : List RegionState) (z : SystemState) (w : Vaulted V) (d : Checkpointed) : Type 0 where
     pub verdict : j ≡ record { begin = y.records; failing = failing_in gs }
@@ -205,12 +206,12 @@ module _ {V : Type 0} (told : V → Option Disk) (may_leave : V → Disk → Typ
     pub runs : w.stopped ≡ false
     pub current : w.current ≡ v.current
     pub end : w.end ≤ v.end + 2 ^ 31
-    pub kept : faults w.store ≡ faults v.store
-    pub tells : is_some (told w.store) ≡ is_some (told v.store)
-    pub calls : lets_pass w.store ≡ fewer (runs_in (side_in c) gs + (flush_calls y + 1)) (lets_pass v.store)
+    pub kept : means.faults w.store ≡ means.faults v.store
+    pub tells : is_some (means.told w.store) ≡ is_some (means.told v.store)
+    pub calls : means.lets_pass w.store ≡ fewer (runs_in (side_in c) gs + (flush_calls y + 1)) (means.lets_pass v.store)
     pub room : audit_refusal y AuditBegin ≡ None
-    pub places : IfSome (told w.store) (HoldsPlaces hs)
-    pub goes : ImageGoes told may_leave faults gs y v c hs z w d j.failing
+    pub places : IfSome (means.told w.store) (HoldsPlaces hs)
+    pub goes : ImageGoes means gs y v c hs z w d j.failing
 
   -- no checkpoint was under way, and the engine ran
   pub record HasMade (gs : List RegionState) (y : SystemState) (v : Vaulted V) (number : ℕ) (hs : List RegionState) (z : SystemState) (w : Vaulted V) : Type 0 where
@@ -223,9 +224,9 @@ module _ {V : Type 0} (told : V → Option Disk) (may_leave : V → Disk → Typ
     pub regions : hs ≡ checkpointed (side_of (v.current + 1)) gs
     pub system : z ≡ behind_checkpoint y []
     pub room : audit_refusal y AuditBegin ≡ None
-    pub calls : lets_pass w.store ≡ fewer (checkpoint_calls y (side_of (v.current + 1)) gs) (lets_pass v.store)
-    pub whole : IsWholeCore told hs z w
-    pub goes : LeadsIdle told may_leave faults gs y v hs z w
+    pub calls : means.lets_pass w.store ≡ fewer (checkpoint_calls y (side_of (v.current + 1)) gs) (means.lets_pass v.store)
+    pub whole : IsWholeCore means.told hs z w
+    pub goes : LeadsIdle means gs y v hs z w
 
 module _ {V : Type 0} (faults : V → ℕ) where
   abbrev pub NoImageBy : SystemState → Vaulted V → CheckpointError → SystemState → Vaulted V → Checkpointed → Type 0
@@ -234,27 +235,27 @@ module _ {V : Type 0} (faults : V → ℕ) where
   NoImageBy y v OutOfMemory z w d = (cause_of z w ≡ None) × (d.faulted ≡ false) × (SameLog y z ⊎ SameLog (audit_begun y) z)
   NoImageBy y v e z w d = ⊥
 
-module _ {V : Type 0} (told : V → Option Disk) (may_leave : V → Disk → Type 0) (faults : V → ℕ) where
+module _ {V : Type 0} (means : Ghosts V) where
   pub record HasNotCopied (c : Checkpointed) (gs : List RegionState) (v : Vaulted V) (d : Checkpointed) (hs : List RegionState) (w : Vaulted V) : Type 0 where
     pub faulted : d.faulted ≡ true
     pub stopped : w.stopped ≡ true
     pub current : w.current ≡ v.current
-    pub rose : Rose (faults v.store) (faults w.store)
-    pub places : IfSome (told w.store) (HoldsPlaces hs)
+    pub rose : Rose (means.faults v.store) (means.faults w.store)
+    pub places : IfSome (means.told w.store) (HoldsPlaces hs)
     pub holds : map hold_on hs ≡ map hold_on gs
-    pub fails : CopiesFail told may_leave faults gs v c hs w
+    pub fails : CopiesFail means gs v c hs w
 
   pub record HasNoImage (gs : List RegionState) (y : SystemState) (v : Vaulted V) (c : Checkpointed) (e : CheckpointError) (hs : List RegionState) (z : SystemState) (w : Vaulted V) (d : Checkpointed) : Type 0 where
-    pub by : NoImageBy faults y v e z w d
+    pub by : NoImageBy means.faults y v e z w d
     pub table : SameTable y z
     pub checking : z.checking ≡ y.checking
     pub current : w.current ≡ v.current
     pub holds : map hold_on hs ≡ map hold_on gs
-    pub places : IfSome (told w.store) (HoldsPlaces hs)
+    pub places : IfSome (means.told w.store) (HoldsPlaces hs)
     pub faulted : d.faulted ≡ true → w.stopped ≡ true
-    pub fails : ImageFails told may_leave faults gs y v c hs z w
+    pub fails : ImageFails means gs y v c hs z w
 
   pub record HasEndedBy (gs : List RegionState) (y : SystemState) (v : Vaulted V) (e : CheckpointError) (hs : List RegionState) (z : SystemState) (w : Vaulted V) : Type 0 where
-    pub by : HasNotMade faults gs y v e hs z w
-    pub whole : IsWholeCore told hs z w
-    pub goes : LeadsIdle told may_leave faults gs y v hs z w
+    pub by : HasNotMade means.faults gs y v e hs z w
+    pub whole : IsWholeCore means.told hs z w
+    pub goes : LeadsIdle means gs y v hs z w

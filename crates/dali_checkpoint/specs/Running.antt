@@ -11,14 +11,15 @@ use Rattle.dali_record.specs.declared.records.Record.{Record}
 use Rattle.dali_record.specs.declared.records.Record.TheVariants.{AuditClean}
 use Rattle.dali_region.specs.State.{RegionState}
 use Rattle.dali_store.specs.Store.{Files as Disk}
-use Rattle.dali_system.specs.State.{SystemState}
-use Rattle.dali_system.specs.Passes.{has_passed, has_found}
+use Rattle.dali_store.specs.declared.store.Store.{Ghosts}
+use Rattle.dali_runs.specs.State.{SystemState}
+use Rattle.dali_runs.specs.Passes.{has_passed, has_found}
 use Rattle.dali_crash.specs.Checkpoints.{Head, Copy, Point, target}
 use Rattle.dali_crash.specs.Traces.{Start}
-use Rattle.dali_traces.specs.Disks.{table_bytes}
-use Rattle.dali_vault.specs.Vaulted.{Vaulted}
-use Rattle.dali_steps.specs.Called.{IsUnderWayIn, IsWholeIn}
-use Rattle.dali_whole.specs.Cores.{IsCoreAt}
+use Rattle.dali_crash.specs.Disks.Disks.{table_bytes}
+use Rattle.dali_core.specs.Vault.Vaulted.{Vaulted}
+use Rattle.dali_core.specs.Steps.Called.{IsUnderWayIn, IsWholeIn}
+use Rattle.dali_core.specs.Cores.{IsCoreAt}
 use Rattle.dali_image.specs.Laws.{header_of}
 use Rattle.dali_checkpoint.specs.Kept.{Checkpointed}
 
@@ -54,25 +55,25 @@ pub record IsCertifiedAt (p : Point) (n b : ℕ) : Type 0 where
   pub ends : b ≤ end
   pub passed : (r : ℕ) → r < regions p.core.system.sizes → IsPassedAt p r
 
-module _ {V : Type 0} (told : V → Option Disk) (may_leave : V → Disk → Type 0) (faults : V → ℕ) where
+module _ {V : Type 0} (means : Ghosts V) where
   pub record IsIdle (s : Start) (B : List (List Record)) (p : Point) (gs : List RegionState) (y : SystemState) (v : Vaulted V) : Type 0 where
-    pub at : IsCoreAt told may_leave faults s B p gs y v
+    pub at : IsCoreAt means s B p gs y v
     pub flag : y.checking ≡ false
     pub begun : p.begun ≡ None
 
   pub record IsCopying (s : Start) (B : List (List Record)) (p : Point) (gs : List RegionState) (y : SystemState) (v : Vaulted V) (c : Checkpointed) (h : Head) : Type 0 where
-    pub at : IsCoreAt told may_leave faults s B p gs y v
+    pub at : IsCoreAt means s B p gs y v
     pub flag : y.checking ≡ true
     pub is : IsOf p c h
     pub copies : AreCopied p h (length p.log) c.copied
-    pub under_way : IsUnderWayIn told may_leave faults p h c.copied v.store
+    pub under_way : IsUnderWayIn means p h c.copied v.store
 
   pub record IsSettled (s : Start) (B : List (List Record)) (p : Point) (gs : List RegionState) (y : SystemState) (v : Vaulted V) (c : Checkpointed) (h : Head) (n : ℕ) : Type 0 where
-    pub at : IsCoreAt told may_leave faults s B p gs y v
+    pub at : IsCoreAt means s B p gs y v
     pub flag : y.checking ≡ true
     pub is : IsOf p c h
     pub settled : c.settled ≡ Some n
     pub within : n ≤ length p.log
     pub copies : AreCopied p h n (regions p.core.system.sizes)
     pub head : p.heads (target p) ≡ h
-    pub whole : IsWholeIn told may_leave faults p v.store
+    pub whole : IsWholeIn means p v.store

@@ -5,17 +5,17 @@ ghost use Rattle.dali_record.specs.Spelling.{words_bytes};
 ghost use Rattle.dali_region.specs.Answers.{is_dirty, cleaned};
 ghost use Rattle.dali_store.specs.Calls.{fewer, one_less};
 ghost use Rattle.dali_store.specs.Store.{LeavesOnly};
-ghost use Rattle.dali_system.specs.declared.causes.Cause.TheVariants.{Store as ByStore};
-ghost use Rattle.dali_system.specs.Steps.{taken, store_stopped, in_checkpoint};
+ghost use Rattle.dali_runs.specs.declared.causes.Cause.TheVariants.{Store as ByStore};
+ghost use Rattle.dali_runs.specs.Steps.{taken, store_stopped, in_checkpoint};
 ghost use Rattle.dali_crash.specs.Checkpoints;
-ghost use Rattle.dali_traces.specs.Disks.{image_name};
-ghost use Rattle.dali_traces.specs.Places.{place_of};
-ghost use Rattle.dali_steps.specs.Said.{TornFrom, HasWritten, WriteHasFailed};
-ghost use Rattle.dali_whole.specs.Moments.{flush_calls, FlushLeaves, Within};
+ghost use Rattle.dali_crash.specs.Disks.Disks.{image_name};
+ghost use Rattle.dali_crash.specs.Disks.Places.{place_of};
+ghost use Rattle.dali_core.specs.Steps.Said.{TornFrom, HasWritten, WriteHasFailed};
+ghost use Rattle.dali_core.specs.Moments.{flush_calls, FlushLeaves, Within};
 ghost use Rattle.dali_checkpoint.specs.Kept.{side_in, cause_of, given_up, IsEndOf};
 ghost use Rattle.dali_checkpoint.specs.Done.{Reaches, CallsStore, Writes, FailsToWrite, HasStarted, HasTurnedTo, FailsToTurn, IsKept, IsLost};
-ghost use Rattle.dali_whole.specs.Cores.{IsNoShorter};
-ghost use Rattle.dali_whole.specs.Cores.{HoldsPlaces};
+ghost use Rattle.dali_core.specs.Cores.{IsNoShorter};
+ghost use Rattle.dali_core.specs.Cores.{HoldsPlaces};
 ghost use Rattle.dali_checkpoint.specs.Moments.{WriteLeaves, TurnLeaves};
 ghost use Rattle.dali_checkpoint.specs.Runs.{is_run_dirty, run_bytes, behind_run, cleaned_run};
 ghost use Rattle.dali_checkpoint.specs.declared.error.CheckpointError.TheVariants.{Failed, InProgress, Stopped, Fault, OutOfMemory};
@@ -23,12 +23,12 @@ ghost use Rattle.dali_checkpoint.specs.declared.error.CheckpointError.TheVariant
 use crate::error::CheckpointError;
 use crate::parts::{self, REGION, RUN, side_of};
 use dali_audit::Verdict;
-use dali_core::System;
+use dali_core::vault::{Vault, VaultError};
 use dali_image::{Header, header_bytes, table_bytes};
 use dali_region::Region;
+use dali_runs::Cause;
 use dali_store::Store;
-use dali_system::Cause;
-use dali_vault::{Vault, VaultError};
+use dali_system::System;
 use std::alloc::Global;
 use std::marker::Model;
 
@@ -68,17 +68,17 @@ fn begin<V: Store>(
 ) -> Result<Checkpoint, CheckpointError>
     requires end { vault.old.end < 2 ^ 62 }
     requires current { vault.old.current < 2 ^ 62 }
-    ensures ok { IfOk result (λ c. HasStarted V.told V.may_leave V.faults system.old.state vault.old c vault.new) }
+    ensures ok { IfOk result (λ c. HasStarted V.Store system.old.state vault.old c vault.new) }
     ensures taken { OnOk result (system.new ≡ record system.old { state = taken system.old.state }) }
     ensures refused { IfSome (cause_of system.old.state vault.old) (λ cause. result ≡ Err (Stopped cause)) }
     ensures stops { IsErrOf result Fault → system.new ≡ record system.old { state = store_stopped (taken system.old.state) } }
-    ensures fault { IsErrOf result Fault → FailsToWrite V.told V.may_leave V.faults system.old.state vault.old (image_name (Checkpoints.side_of (vault.old.current + 1))) 0 64 vault.new }
+    ensures fault { IsErrOf result Fault → FailsToWrite V.Store system.old.state vault.old (image_name (Checkpoints.side_of (vault.old.current + 1))) 0 64 vault.new }
     ensures same { (IsErrOf result Fault → ⊥) → OnErr result ((system.new ≡ system.old) × (vault.new ≡ vault.old)) }
     ensures memory { cause_of system.old.state vault.old ≡ None → IfErr result (λ e. (e ≡ Fault) ⊎ (e ≡ OutOfMemory)) }
     ensures reaches { IfOk result (λ c. Reaches V.told (side_in c) 0 vault.new) }
     ensures files { IsNoShorter V.told vault.old vault.new }
     ensures any_moment { vault.old.stopped ≡ false → Within V.told V.moment V.left_since vault.old vault.new
-        (WriteLeaves V.told V.may_leave V.faults system.old.state vault.old (image_name (Checkpoints.side_of (vault.old.current + 1))) 0 64) }
+        (WriteLeaves V.Store system.old.state vault.old (image_name (Checkpoints.side_of (vault.old.current + 1))) 0 64) }
     ensures grows { vault.new.end ≤ vault.old.end + 2 ^ 31 }
     ensures store { CallsStore V.faults V.lets_pass (flush_calls system.old.state + 1) result vault.old.store vault.new.store }
 {
@@ -123,13 +123,13 @@ fn anchor<V: Store>(
 ) -> Result<u64, CheckpointError>
     requires end { vault.old.end < 2 ^ 62 }
     requires current { vault.old.current < 2 ^ 62 }
-    ensures ok { IfOk result (λ now. (now ≡ vault.new.current) × HasTurnedTo V.told V.may_leave V.faults system.old.state vault.old (Checkpoints.side_of number) vault.new) }
+    ensures ok { IfOk result (λ now. (now ≡ vault.new.current) × HasTurnedTo V.Store system.old.state vault.old (Checkpoints.side_of number) vault.new) }
     ensures taken { OnOk result (system.new ≡ record system.old { state = taken system.old.state }) }
     ensures refused { IfSome (cause_of system.old.state vault.old) (λ cause. (result ≡ Err (Stopped cause)) × (system.new ≡ system.old) × (vault.new ≡ vault.old)) }
-    ensures fault { cause_of system.old.state vault.old ≡ None → OnErr result ((result ≡ Err Fault) × (system.new ≡ record system.old { state = store_stopped (taken system.old.state) }) × FailsToTurn V.told V.may_leave V.faults system.old.state vault.old (Checkpoints.side_of number) vault.new) }
+    ensures fault { cause_of system.old.state vault.old ≡ None → OnErr result ((result ≡ Err Fault) × (system.new ≡ record system.old { state = store_stopped (taken system.old.state) }) × FailsToTurn V.Store system.old.state vault.old (Checkpoints.side_of number) vault.new) }
     ensures number { IfOk result (λ now. now ≡ vault.old.current + 1) }
     ensures files { IsNoShorter V.told vault.old vault.new }
-    ensures any_moment { vault.old.stopped ≡ false → Within V.told V.moment V.left_since vault.old vault.new (TurnLeaves V.told V.may_leave V.faults system.old.state vault.old (Checkpoints.side_of number)) }
+    ensures any_moment { vault.old.stopped ≡ false → Within V.told V.moment V.left_since vault.old vault.new (TurnLeaves V.Store system.old.state vault.old (Checkpoints.side_of number)) }
     ensures grows { vault.new.end ≤ vault.old.end + 2 ^ 31 }
     ensures store { CallsStore V.faults V.lets_pass (flush_calls system.old.state + 5) result vault.old.store vault.new.store }
     ensures promised { system.new.promised ≡ system.old.promised }
@@ -150,8 +150,8 @@ fn keep_failure<V: Store>(
     vault: &mut Vault<V>,
 ) -> Result<(), CheckpointError>
     requires end { vault.old.end < 2 ^ 62 }
-    ensures kept { OnOk result (IsKept V.told V.may_leave V.faults system.old.state vault.old system.new.state vault.new) }
-    ensures lost { IfErr result (IsLost V.told V.may_leave V.faults system.old.state vault.old system.new.state vault.new) }
+    ensures kept { OnOk result (IsKept V.Store system.old.state vault.old system.new.state vault.new) }
+    ensures lost { IfErr result (IsLost V.Store system.old.state vault.old system.new.state vault.new) }
     ensures files { IsNoShorter V.told vault.old vault.new }
     ensures any_moment { vault.old.stopped ≡ false → Within V.told V.moment V.left_since vault.old vault.new (FlushLeaves V.may_leave system.old.state vault.old) }
     ensures grows { vault.new.end ≤ vault.old.end + 2 ^ 31 }
@@ -181,7 +181,7 @@ impl Checkpoint {
     ) -> Result<Self, CheckpointError>
         requires end { vault.old.end < 2 ^ 62 }
         requires current { vault.old.current < 2 ^ 62 }
-        ensures ok { IfOk result (λ c. HasStarted V.told V.may_leave V.faults system.old.state vault.old c vault.new) }
+        ensures ok { IfOk result (λ c. HasStarted V.Store system.old.state vault.old c vault.new) }
         ensures flag { OnOk result ((system.old.state.checking ≡ false) × (system.new ≡ record system.old { state = in_checkpoint (taken system.old.state) true })) }
         ensures reaches { IfOk result (λ c. Reaches V.told (side_in c) 0 vault.new) }
         ensures in_progress { system.old.state.checking ≡ true → result ≡ Err InProgress }
@@ -189,10 +189,10 @@ impl Checkpoint {
         ensures stopped { system.old.state.checking ≡ false → IfSome (cause_of system.old.state vault.old) (λ cause. result ≡ Err (Stopped cause)) }
         ensures runs { cause_of system.old.state vault.old ≡ None → IfErr result (λ e. (e ≡ InProgress) ⊎ ((e ≡ Fault) ⊎ (e ≡ OutOfMemory))) }
         ensures stops { IsErrOf result Fault → system.new ≡ record system.old { state = store_stopped (taken system.old.state) } }
-        ensures fault { IsErrOf result Fault → FailsToWrite V.told V.may_leave V.faults system.old.state vault.old (image_name (Checkpoints.side_of (vault.old.current + 1))) 0 64 vault.new }
+        ensures fault { IsErrOf result Fault → FailsToWrite V.Store system.old.state vault.old (image_name (Checkpoints.side_of (vault.old.current + 1))) 0 64 vault.new }
         ensures files { IsNoShorter V.told vault.old vault.new }
         ensures any_moment { vault.old.stopped ≡ false → Within V.told V.moment V.left_since vault.old vault.new
-            (WriteLeaves V.told V.may_leave V.faults system.old.state vault.old (image_name (Checkpoints.side_of (vault.old.current + 1))) 0 64) }
+            (WriteLeaves V.Store system.old.state vault.old (image_name (Checkpoints.side_of (vault.old.current + 1))) 0 64) }
         ensures grows { vault.new.end ≤ vault.old.end + 2 ^ 31 }
         ensures store { CallsStore V.faults V.lets_pass (flush_calls system.old.state + 1) result vault.old.store vault.new.store }
         ensures same { (IsErrOf result Fault → ⊥) → OnErr result ((system.new ≡ system.old) × (vault.new ≡ vault.old)) }
@@ -227,14 +227,14 @@ impl Checkpoint {
         ensures ok { OnOk result ((self.new ≡ record self.old { copied = number + 1 }) × (region.new ≡ cleaned (side_in self.old) region.old)) }
         ensures reaches { OnOk result (Reaches V.told (side_in self.old) (number + 1) vault.new) }
         ensures clean { is_dirty region.old (side_in self.old) ≡ false → (result ≡ Ok tt) × (region.new ≡ region.old) × (vault.new ≡ vault.old) }
-        ensures written { is_dirty region.old (side_in self.old) ≡ true → OnOk result (HasWritten V.told V.may_leave V.faults vault.old (image_name (side_in self.old)) (place_of number) (words_bytes region.old.back) vault.new) }
+        ensures written { is_dirty region.old (side_in self.old) ≡ true → OnOk result (HasWritten V.Store vault.old (image_name (side_in self.old)) (place_of number) (words_bytes region.old.back) vault.new) }
         ensures stopped { is_dirty region.old (side_in self.old) ≡ true → vault.old.stopped ≡ true → (result ≡ Err (Stopped ByStore)) × (self.new ≡ self.old) × (vault.new ≡ vault.old) }
         ensures end { vault.new.end ≡ vault.old.end }
         ensures files { IsNoShorter V.told vault.old vault.new }
         ensures any_moment { is_dirty region.old (side_in self.old) ≡ true → vault.old.stopped ≡ false → LeavesOnly V.moment V.left_since vault.old.store vault.new.store
             (TornFrom (V.may_leave vault.old.store) (image_name (side_in self.old)) (place_of number) (length (words_bytes region.old.back))) }
         ensures calls { is_dirty region.old (side_in self.old) ≡ true → vault.old.stopped ≡ false → V.lets_pass vault.new.store ≡ one_less (V.lets_pass vault.old.store) }
-        ensures fault { vault.old.stopped ≡ false → OnErr result ((result ≡ Err Fault) × (self.new ≡ record self.old { faulted = true }) × WriteHasFailed V.told V.may_leave V.faults vault.old (image_name (side_in self.old)) (place_of number) (length (words_bytes region.old.back)) vault.new) }
+        ensures fault { vault.old.stopped ≡ false → OnErr result ((result ≡ Err Fault) × (self.new ≡ record self.old { faulted = true }) × WriteHasFailed V.Store vault.old (image_name (side_in self.old)) (place_of number) (length (words_bytes region.old.back)) vault.new) }
         ensures region { OnErr result (region.new ≡ region.old) }
     {
         let side = side_of(self.header.number);
@@ -298,7 +298,7 @@ impl Checkpoint {
         ensures places { IfSome (V.told vault.new.store) (HoldsPlaces regions.new) }
         ensures clean { is_run_dirty self.old regions.old ≡ false → (result ≡ Ok tt) × (regions.new ≡ regions.old) × (vault.new ≡ vault.old) }
         ensures written { is_run_dirty self.old regions.old ≡ true → OnOk result
-            (HasWritten V.told V.may_leave V.faults vault.old (image_name (side_in self.old)) (place_of self.old.copied) (run_bytes self.old regions.old) vault.new) }
+            (HasWritten V.Store vault.old (image_name (side_in self.old)) (place_of self.old.copied) (run_bytes self.old regions.old) vault.new) }
         ensures stopped { is_run_dirty self.old regions.old ≡ true → vault.old.stopped ≡ true → (result ≡ Err (Stopped ByStore)) × (self.new ≡ self.old) × (vault.new ≡ vault.old) }
         ensures end { vault.new.end ≡ vault.old.end }
         ensures files { IsNoShorter V.told vault.old vault.new }
@@ -307,7 +307,7 @@ impl Checkpoint {
         ensures calls { is_run_dirty self.old regions.old ≡ true → vault.old.stopped ≡ false → V.lets_pass vault.new.store ≡ one_less (V.lets_pass vault.old.store) }
         ensures fault { vault.old.stopped ≡ false → OnErr result ((result ≡ Err Fault) × (self.new ≡ record self.old { faulted = true })) }
         ensures failed { vault.old.stopped ≡ false → OnErr result
-            (WriteHasFailed V.told V.may_leave V.faults vault.old (image_name (side_in self.old)) (place_of self.old.copied) (length (run_bytes self.old regions.old)) vault.new) }
+            (WriteHasFailed V.Store vault.old (image_name (side_in self.old)) (place_of self.old.copied) (length (run_bytes self.old regions.old)) vault.new) }
         ensures regions { OnErr result (regions.new ≡ regions.old) }
     {
         let side = side_of(self.header.number);
@@ -342,13 +342,13 @@ impl Checkpoint {
         requires all { self.old.copied ≡ regions_of self.old.header.geometry }
         requires reaches { Reaches V.told (side_in self.old) self.old.copied vault.old }
         requires end { vault.old.end < 2 ^ 62 }
-        ensures ok { OnOk result (Writes V.told V.may_leave V.faults system.old.state vault.old (image_name (side_in self.old)) (place_of self.old.copied) self.old.table vault.new) }
+        ensures ok { OnOk result (Writes V.Store system.old.state vault.old (image_name (side_in self.old)) (place_of self.old.copied) self.old.table vault.new) }
         ensures settled { OnOk result ((self.new ≡ record self.old { settled = Some system.old.state.records }) × (system.new ≡ record system.old { state = taken system.old.state })) }
         ensures stopped { IfSome (cause_of system.old.state vault.old) (λ cause. (result ≡ Err (Stopped cause)) × (system.new ≡ system.old) × (vault.new ≡ vault.old)) }
-        ensures fault { cause_of system.old.state vault.old ≡ None → OnErr result ((result ≡ Err Fault) × (system.new ≡ record system.old { state = store_stopped (taken system.old.state) }) × FailsToWrite V.told V.may_leave V.faults system.old.state vault.old (image_name (side_in self.old)) (place_of self.old.copied) (length self.old.table) vault.new) }
+        ensures fault { cause_of system.old.state vault.old ≡ None → OnErr result ((result ≡ Err Fault) × (system.new ≡ record system.old { state = store_stopped (taken system.old.state) }) × FailsToWrite V.Store system.old.state vault.old (image_name (side_in self.old)) (place_of self.old.copied) (length self.old.table) vault.new) }
         ensures files { IsNoShorter V.told vault.old vault.new }
         ensures any_moment { vault.old.stopped ≡ false → Within V.told V.moment V.left_since vault.old vault.new
-            (WriteLeaves V.told V.may_leave V.faults system.old.state vault.old (image_name (side_in self.old)) (place_of self.old.copied) (length self.old.table)) }
+            (WriteLeaves V.Store system.old.state vault.old (image_name (side_in self.old)) (place_of self.old.copied) (length self.old.table)) }
         ensures grows { vault.new.end ≤ vault.old.end + 2 ^ 31 }
         ensures store { CallsStore V.faults V.lets_pass (flush_calls system.old.state + 1) result vault.old.store vault.new.store }
         ensures same { OnErr result (self.new ≡ self.old) }
@@ -387,15 +387,15 @@ impl Checkpoint {
         requires end { vault.old.end < 2 ^ 62 }
         requires current { vault.old.current < 2 ^ 62 }
         ensures ok { IfOk result (λ now. (verdict.failing ≡ []) × (now ≡ vault.old.current + 1) × (now ≡ vault.new.current)) }
-        ensures turned { OnOk result (HasTurnedTo V.told V.may_leave V.faults system.old.state vault.old (side_in self) vault.new) }
+        ensures turned { OnOk result (HasTurnedTo V.Store system.old.state vault.old (side_in self) vault.new) }
         ensures flag { OnOk result (system.new ≡ record system.old { state = in_checkpoint (taken system.old.state) false }) }
-        ensures kept { IsErrOf result (Failed verdict.failing) → IsKept V.told V.may_leave V.faults system.old.state vault.old system.new.state vault.new }
-        ensures failed { IfErr result (λ e. (verdict.failing ≡ [] → ⊥) → (e ≡ Failed verdict.failing) ⊎ IsLost V.told V.may_leave V.faults system.old.state vault.old system.new.state vault.new e) }
+        ensures kept { IsErrOf result (Failed verdict.failing) → IsKept V.Store system.old.state vault.old system.new.state vault.new }
+        ensures failed { IfErr result (λ e. (verdict.failing ≡ [] → ⊥) → (e ≡ Failed verdict.failing) ⊎ IsLost V.Store system.old.state vault.old system.new.state vault.new e) }
         ensures stopped { verdict.failing ≡ [] → IfSome (cause_of system.old.state vault.old) (λ cause. (result ≡ Err (Stopped cause)) × (system.new ≡ record system.old { state = in_checkpoint system.old.state false }) × (vault.new ≡ vault.old)) }
-        ensures fault { verdict.failing ≡ [] → cause_of system.old.state vault.old ≡ None → OnErr result ((result ≡ Err Fault) × (system.new ≡ record system.old { state = in_checkpoint (store_stopped (taken system.old.state)) false }) × FailsToTurn V.told V.may_leave V.faults system.old.state vault.old (side_in self) vault.new) }
+        ensures fault { verdict.failing ≡ [] → cause_of system.old.state vault.old ≡ None → OnErr result ((result ≡ Err Fault) × (system.new ≡ record system.old { state = in_checkpoint (store_stopped (taken system.old.state)) false }) × FailsToTurn V.Store system.old.state vault.old (side_in self) vault.new) }
         ensures files { IsNoShorter V.told vault.old vault.new }
         ensures any_moment { verdict.failing ≡ [] → vault.old.stopped ≡ false → Within V.told V.moment V.left_since vault.old vault.new
-            (TurnLeaves V.told V.may_leave V.faults system.old.state vault.old (side_in self)) }
+            (TurnLeaves V.Store system.old.state vault.old (side_in self)) }
         ensures failing_moment { (verdict.failing ≡ [] → ⊥) → vault.old.stopped ≡ false → Within V.told V.moment V.left_since vault.old vault.new
             (FlushLeaves V.may_leave system.old.state vault.old) }
         ensures grows { vault.new.end ≤ vault.old.end + 2 ^ 31 }

@@ -3,9 +3,9 @@ ghost use Rattle.std.specs.Prelude.{◌≡◌};
 ghost use Rattle.dali_checkpoint.specs.declared.error.CheckpointError.TheVariants.{OutOfMemory as Memory};
 
 use dali_bytes::OutOfMemory;
-use dali_core::SystemError;
 use dali_record::Regions;
-use dali_system::Cause;
+use dali_runs::Cause;
+use dali_system::SystemError;
 use thiserror::Error;
 
 /// Why a call of a checkpoint was refused.

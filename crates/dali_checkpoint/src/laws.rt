@@ -8,35 +8,35 @@ use dali_store::Store;
 /// its own start, a taking and a flush, the keeping of what the records come to, and the write of the header. Nothing is
 /// copied yet then.
 pub fn a_start_makes_steps<V: Store>()
-    ensures { StartGoes V.told V.may_leave V.faults }
+    ensures { StartGoes V.Store }
 {}
 
 /// So is a copy of the next region, which is brought up to date with all records so far; one whose flag is clear was so
 /// before. One region more is copied then.
 pub fn a_copy_makes_a_step<V: Store>()
-    ensures copied { CopyGoes V.told V.may_leave V.faults }
-    ensures skipped { SkipGoes V.told V.may_leave V.faults }
+    ensures copied { CopyGoes V.Store }
+    ensures skipped { SkipGoes V.Store }
 {}
 
 /// So is a run of regions that one call of the store wrote: each is a copy of its own, with no step of others between them. A
 /// run whose flags are clear was so before.
 pub fn a_run_of_copies_makes_steps<V: Store>()
-    ensures copied { RunGoes V.told V.may_leave V.faults }
-    ensures skipped { RunSkips V.told V.may_leave V.faults }
+    ensures copied { RunGoes V.Store }
+    ensures skipped { RunSkips V.Store }
 {}
 
 /// So is a settlement, once all regions are copied: a taking and a flush, and the write of the table, behind which the whole
 /// image is read.
 pub fn a_settlement_makes_steps<V: Store>()
-    ensures { SettleGoes V.told V.may_leave V.faults }
+    ensures { SettleGoes V.Store }
 {}
 
 /// Between these calls each step of others that calls no store and takes no frame keeps all that they say, and so does a
 /// flush of all records, as a commit makes it. The passes of an audit mark the copies; one that began behind the settlement
 /// and ended clean certifies each copy.
 pub fn an_audit_certifies_the_copies<V: Store>()
-    ensures others { OthersKeep V.told V.may_leave V.faults }
-    ensures flush { FlushKeeps V.told V.may_leave V.faults }
+    ensures others { OthersKeep V.Store }
+    ensures flush { FlushKeeps V.Store }
     ensures audit { AuditsTell }
 {}
 
@@ -44,44 +44,44 @@ pub fn an_audit_certifies_the_copies<V: Store>()
 /// checkpoint's end. Then no checkpoint is under way and the image files read as the run says, so the next one may start.
 /// The current image has the head that the start kept.
 pub fn a_certification_makes_steps<V: Store>()
-    ensures { CertifyGoes V.told V.may_leave V.faults }
+    ensures { CertifyGoes V.Store }
 {}
 
 /// Where a call meets a fault, where an audit failed, and where a checkpoint is given up, what is left is behind steps too.
 pub fn a_checkpoint_that_fails_makes_steps<V: Store>()
-    ensures start { StartFaults V.told V.may_leave V.faults }
-    ensures copy { CopyFaults V.told V.may_leave V.faults }
-    ensures run { RunFaults V.told V.may_leave V.faults }
-    ensures settle { SettleFaults V.told V.may_leave V.faults }
-    ensures certify { CertifyFaults V.told V.may_leave V.faults }
-    ensures audit { FailureEnds V.told V.may_leave V.faults }
-    ensures given_up { GivesUp V.told V.may_leave V.faults }
+    ensures start { StartFaults V.Store }
+    ensures copy { CopyFaults V.Store }
+    ensures run { RunFaults V.Store }
+    ensures settle { SettleFaults V.Store }
+    ensures certify { CertifyFaults V.Store }
+    ensures audit { FailureEnds V.Store }
+    ensures given_up { GivesUp V.Store }
 {}
 
 /// Where the file of a side has the place of each region whose flag for that side is clear, it has so behind a call that
 /// leaves no image file shorter, and behind a copy, which clears a flag.
 pub fn a_clear_flag_has_its_place<V: Store>()
-    ensures stays { PlacesStay V.told V.may_leave V.faults }
-    ensures copied { PlacesGoOn V.told V.may_leave V.faults }
+    ensures stays { PlacesStay V.Store }
+    ensures copied { PlacesGoOn V.Store }
 {}
 
 /// Each disk that a crash inside a call of a checkpoint leaves spells files that restart right.
 pub fn a_crash_inside_a_checkpoint_is_right<V: Store>()
-    ensures start { StartIsRight V.told V.may_leave V.faults }
-    ensures copy { CopyIsRight V.told V.may_leave V.faults }
-    ensures settle { SettleIsRight V.told V.may_leave V.faults }
-    ensures certify { CertifyIsRight V.told V.may_leave V.faults }
-    ensures failure { FailureIsRight V.told V.may_leave V.faults }
+    ensures start { StartIsRight V.Store }
+    ensures copy { CopyIsRight V.Store }
+    ensures settle { SettleIsRight V.Store }
+    ensures certify { CertifyIsRight V.Store }
+    ensures failure { FailureIsRight V.Store }
 {}
 
 /// Where a checkpoint has ended, given up ones and those with a fault among them, none is under way, and the next one may
 /// start. So it is behind `give_up`, behind a start that failed, and behind each answer of `certify`.
 pub fn a_checkpoint_that_ended_leaves_none_under_way<V: Store>()
-    ensures told { PointsTell V.told V.may_leave V.faults }
-    ensures ends { EndsIdle V.told V.may_leave V.faults }
+    ensures told { PointsTell V.Store }
+    ensures ends { EndsIdle V.Store }
 {}
 
 /// A core of a run may be asked for a whole checkpoint: its log's end is below 2^61, and its current number below 2^62.
 pub fn a_core_of_a_run_may_make_a_checkpoint<V: Store>()
-    ensures { EndIsFar V.told V.may_leave V.faults }
+    ensures { EndIsFar V.Store }
 {}

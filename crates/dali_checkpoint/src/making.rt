@@ -4,10 +4,10 @@ ghost use Rattle.dali_geometry.specs.Places.{regions as regions_of};
 ghost use Rattle.dali_record.specs.declared.records.Record.TheVariants.{AuditBegin};
 ghost use Rattle.dali_region.specs.State.{checked};
 ghost use Rattle.dali_store.specs.Calls.{fewer};
-ghost use Rattle.dali_core.specs.Audits.{audit_refusal};
+ghost use Rattle.dali_system.specs.Audits.{audit_refusal};
 ghost use Rattle.dali_crash.specs.Checkpoints;
 ghost use Rattle.dali_audit.specs.declared.audit.Finding.TheVariants.{Waiting};
-ghost use Rattle.dali_whole.specs.Cores.{HoldsPlaces, IsWholeCore};
+ghost use Rattle.dali_core.specs.Cores.{HoldsPlaces, IsWholeCore};
 ghost use Rattle.dali_checkpoint.specs.Kept.{side_in, cause_of};
 ghost use Rattle.dali_checkpoint.specs.Done.{Reaches};
 ghost use Rattle.dali_checkpoint.specs.Making.{found_in, failing_in, with_audit, behind_checkpoint, checkpointed, checkpoint_calls, AuditLeft, AuditRefused, HasNotMade, LeadsIdle, StaysRight, CopiesStayRight, ImageStaysRight, HasCopied, HasNotCopied, HasImage, HasNoImage, HasMade, HasEndedBy};
@@ -16,11 +16,11 @@ ghost use Rattle.dali_checkpoint.specs.declared.error.CheckpointError.TheVariant
 use crate::checkpoint::Checkpoint;
 use crate::error::CheckpointError;
 use dali_audit::{Audit, Verdict};
-use dali_core::{System, SystemError};
+use dali_core::Core;
+use dali_core::vault::Vault;
 use dali_region::Region;
 use dali_store::Store;
-use dali_vault::Vault;
-use dali_whole::Core;
+use dali_system::{System, SystemError};
 use std::alloc::Global;
 
 // Copies all regions, run by run.
@@ -35,11 +35,11 @@ fn copy_all<V: Store>(
     requires reaches { Reaches V.told (side_in checkpoint.old) 0 vault.old }
     requires places { IfSome (V.told vault.old.store) (HoldsPlaces regions.old) }
     requires runs { vault.old.stopped ≡ false }
-    ensures ok { OnOk result (HasCopied V.told V.may_leave V.faults V.lets_pass checkpoint.old regions.old vault.old checkpoint.new regions.new vault.new) }
-    ensures fault { OnErr result ((result ≡ Err Fault) × HasNotCopied V.told V.may_leave V.faults checkpoint.old regions.old vault.old checkpoint.new regions.new vault.new) }
+    ensures ok { OnOk result (HasCopied V.Store checkpoint.old regions.old vault.old checkpoint.new regions.new vault.new) }
+    ensures fault { OnErr result ((result ≡ Err Fault) × HasNotCopied V.Store checkpoint.old regions.old vault.old checkpoint.new regions.new vault.new) }
     ensures end { vault.new.end ≡ vault.old.end }
     ensures tells { is_some (V.told vault.new.store) ≡ is_some (V.told vault.old.store) }
-    ensures any_moment { CopiesStayRight V.told V.may_leave V.faults V.moment V.left_since regions.old vault.old checkpoint.old vault.new }
+    ensures any_moment { CopiesStayRight V.Store regions.old vault.old checkpoint.old vault.new }
 {
     while (checkpoint.copied() as usize) < regions.len() {
         match checkpoint.copy_run(regions, vault) {
@@ -105,10 +105,10 @@ fn write_image<V: Store>(
     requires places { IfSome (V.told vault.old.store) (HoldsPlaces regions.old) }
     requires runs { cause_of system.old.state vault.old ≡ None }
     requires end { vault.old.end < 2 ^ 62 }
-    ensures ok { IfOk result (λ verdict. HasImage V.told V.may_leave V.faults V.lets_pass regions.old system.old.state vault.old checkpoint.old verdict regions.new system.new.state vault.new checkpoint.new) }
-    ensures err { IfErr result (λ error. HasNoImage V.told V.may_leave V.faults regions.old system.old.state vault.old checkpoint.old error regions.new system.new.state vault.new checkpoint.new) }
+    ensures ok { IfOk result (λ verdict. HasImage V.Store regions.old system.old.state vault.old checkpoint.old verdict regions.new system.new.state vault.new checkpoint.new) }
+    ensures err { IfErr result (λ error. HasNoImage V.Store regions.old system.old.state vault.old checkpoint.old error regions.new system.new.state vault.new checkpoint.new) }
     ensures tells { is_some (V.told vault.new.store) ≡ is_some (V.told vault.old.store) }
-    ensures any_moment { ImageStaysRight V.told V.may_leave V.faults V.moment V.left_since regions.old system.old.state vault.old checkpoint.old vault.new }
+    ensures any_moment { ImageStaysRight V.Store regions.old system.old.state vault.old checkpoint.old vault.new }
     ensures grows { vault.new.end ≤ vault.old.end + 2 ^ 31 }
     ensures promised { system.new.promised ≡ system.old.promised }
 {
@@ -137,10 +137,10 @@ fn make_apart<V: Store>(
     requires whole { IsWholeCore V.told regions.old system.old.state vault.old }
     requires end { vault.old.end < 2 ^ 61 }
     requires current { vault.old.current < 2 ^ 62 }
-    ensures ok { IfOk result (λ number. HasMade V.told V.may_leave V.faults V.lets_pass regions.old system.old.state vault.old number regions.new system.new.state vault.new) }
-    ensures err { IfErr result (λ error. HasEndedBy V.told V.may_leave V.faults regions.old system.old.state vault.old error regions.new system.new.state vault.new) }
+    ensures ok { IfOk result (λ number. HasMade V.Store regions.old system.old.state vault.old number regions.new system.new.state vault.new) }
+    ensures err { IfErr result (λ error. HasEndedBy V.Store regions.old system.old.state vault.old error regions.new system.new.state vault.new) }
     ensures tells { is_some (V.told vault.new.store) ≡ is_some (V.told vault.old.store) }
-    ensures any_moment { StaysRight V.told V.may_leave V.faults V.moment V.left_since regions.old system.old.state vault.old vault.new }
+    ensures any_moment { StaysRight V.Store regions.old system.old.state vault.old vault.new }
     ensures grows { vault.new.end ≤ vault.old.end + 3 * 2 ^ 31 }
     ensures promised { system.new.promised ≡ system.old.promised }
 {
@@ -163,10 +163,10 @@ fn make<V: Store>(alloc: Global, core: &mut Core<V>) -> Result<u64, CheckpointEr
     requires whole { IsWholeCore V.told core.old.regions.items core.old.system.state core.old.vault }
     requires end { core.old.vault.end < 2 ^ 61 }
     requires current { core.old.vault.current < 2 ^ 62 }
-    ensures ok { IfOk result (λ number. HasMade V.told V.may_leave V.faults V.lets_pass core.old.regions.items core.old.system.state core.old.vault number core.new.regions.items core.new.system.state core.new.vault) }
-    ensures err { IfErr result (λ error. HasEndedBy V.told V.may_leave V.faults core.old.regions.items core.old.system.state core.old.vault error core.new.regions.items core.new.system.state core.new.vault) }
+    ensures ok { IfOk result (λ number. HasMade V.Store core.old.regions.items core.old.system.state core.old.vault number core.new.regions.items core.new.system.state core.new.vault) }
+    ensures err { IfErr result (λ error. HasEndedBy V.Store core.old.regions.items core.old.system.state core.old.vault error core.new.regions.items core.new.system.state core.new.vault) }
     ensures tells { is_some (V.told core.new.vault.store) ≡ is_some (V.told core.old.vault.store) }
-    ensures any_moment { StaysRight V.told V.may_leave V.faults V.moment V.left_since core.old.regions.items core.old.system.state core.old.vault core.new.vault }
+    ensures any_moment { StaysRight V.Store core.old.regions.items core.old.system.state core.old.vault core.new.vault }
     ensures grows { core.new.vault.end ≤ core.old.vault.end + 3 * 2 ^ 31 }
     ensures promised { core.new.system.promised ≡ core.old.system.promised }
 {
@@ -202,9 +202,9 @@ pub fn make_checkpoint<V: Store>(core: &mut Core<V>, alloc: Global) -> Result<u6
     ensures grows { core.new.vault.end ≤ core.old.vault.end + 3 * 2 ^ 31 }
     ensures promised { core.new.system.promised ≡ core.old.system.promised }
     ensures whole { IsWholeCore V.told core.new.regions.items core.new.system.state core.new.vault }
-    ensures goes { LeadsIdle V.told V.may_leave V.faults core.old.regions.items core.old.system.state core.old.vault core.new.regions.items core.new.system.state core.new.vault }
+    ensures goes { LeadsIdle V.Store core.old.regions.items core.old.system.state core.old.vault core.new.regions.items core.new.system.state core.new.vault }
     ensures tells { is_some (V.told core.new.vault.store) ≡ is_some (V.told core.old.vault.store) }
-    ensures any_moment { StaysRight V.told V.may_leave V.faults V.moment V.left_since core.old.regions.items core.old.system.state core.old.vault core.new.vault }
+    ensures any_moment { StaysRight V.Store core.old.regions.items core.old.system.state core.old.vault core.new.vault }
 {
     make(alloc, core)
 }

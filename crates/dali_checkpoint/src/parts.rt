@@ -4,31 +4,31 @@ ghost use Rattle.dali_record.specs.Spelling.{words_bytes};
 ghost use Rattle.dali_region.specs.Answers.{cleaned};
 ghost use Rattle.dali_store.specs.Calls.{fewer, one_less};
 ghost use Rattle.dali_store.specs.Store.{file_of, LeavesOnly};
-ghost use Rattle.dali_system.specs.Steps.{taken, store_stopped};
-ghost use Rattle.dali_traces.specs.Anchors.{MayHaveMoved};
-ghost use Rattle.dali_traces.specs.Disks.{image_name};
-ghost use Rattle.dali_traces.specs.Places.{place_of};
+ghost use Rattle.dali_runs.specs.Steps.{taken, store_stopped};
+ghost use Rattle.dali_log.specs.Anchors.{MayHaveMoved};
+ghost use Rattle.dali_crash.specs.Disks.Disks.{image_name};
+ghost use Rattle.dali_crash.specs.Disks.Places.{place_of};
 ghost use Rattle.dali_crash.specs.Checkpoints;
-ghost use Rattle.dali_steps.specs.Said.{TornFrom, HasWritten, WriteHasFailed, HasSynced, SyncHasFailed, HasTurned, TurnHasFailed};
-ghost use Rattle.dali_whole.specs.Cores.{HoldsPlaces};
-ghost use Rattle.dali_whole.specs.Flushed.{FlushesFrame, FailsFrame};
-ghost use Rattle.dali_whole.specs.Moments.{flush_calls, FlushLeaves, Within};
+ghost use Rattle.dali_core.specs.Steps.Said.{TornFrom, HasWritten, WriteHasFailed, HasSynced, SyncHasFailed, HasTurned, TurnHasFailed};
+ghost use Rattle.dali_core.specs.Cores.{HoldsPlaces};
+ghost use Rattle.dali_core.specs.Flushed.{FlushesFrame, FailsFrame};
+ghost use Rattle.dali_core.specs.Moments.{flush_calls, FlushLeaves, Within};
 ghost use Rattle.dali_checkpoint.specs.Kept;
 ghost use Rattle.dali_checkpoint.specs.Done.{Reaches};
-ghost use Rattle.dali_whole.specs.Cores.{IsNoShorter};
+ghost use Rattle.dali_core.specs.Cores.{IsNoShorter};
 ghost use Rattle.dali_checkpoint.specs.Runs.{is_first_dirty, run_of, change, bytes_between};
 ghost use Rattle.dali_checkpoint.specs.declared.error.CheckpointError.TheVariants.{Fault};
-ghost use Rattle.dali_vault.specs.declared.error.VaultError.TheVariants.{Fault as StoreFault, Stopped as VaultStopped};
+ghost use Rattle.dali_core.specs.declared.vault.error.VaultError.TheVariants.{Fault as StoreFault, Stopped as VaultStopped};
 
 use crate::error::CheckpointError;
 use dali_bytes::put;
-use dali_core::System;
+use dali_core::vault::{Vault, VaultError};
+use dali_core::{calls, write_out};
 use dali_image::region_bytes;
 use dali_region::{Region, Side};
+use dali_runs::Cause;
 use dali_store::Store;
-use dali_system::Cause;
-use dali_vault::{Vault, VaultError};
-use dali_whole::{calls, write_out};
+use dali_system::System;
 use std::alloc::Global;
 
 // How many regions are written at once, at most: 64 KiB.
@@ -63,8 +63,8 @@ pub fn flush<V: Store>(
 ) -> Result<(), CheckpointError>
     requires small { vault.old.end < 2 ^ 62 }
     requires runs { vault.old.stopped ≡ false }
-    ensures ok { OnOk result ((system.new ≡ record system.old { state = taken system.old.state }) × FlushesFrame V.told V.may_leave V.faults system.old.state vault.old vault.new) }
-    ensures fault { OnErr result ((result ≡ Err Fault) × (system.new ≡ record system.old { state = store_stopped (taken system.old.state) }) × FailsFrame V.told V.may_leave V.faults system.old.state vault.old vault.new) }
+    ensures ok { OnOk result ((system.new ≡ record system.old { state = taken system.old.state }) × FlushesFrame V.Store system.old.state vault.old vault.new) }
+    ensures fault { OnErr result ((result ≡ Err Fault) × (system.new ≡ record system.old { state = store_stopped (taken system.old.state) }) × FailsFrame V.Store system.old.state vault.old vault.new) }
     ensures files { IsNoShorter V.told vault.old vault.new }
     ensures any_moment { Within V.told V.moment V.left_since vault.old vault.new (FlushLeaves V.may_leave system.old.state vault.old) }
     ensures grows { vault.new.end ≤ vault.old.end + 2 ^ 31 }
@@ -89,8 +89,8 @@ pub fn write<V: Store>(
 ) -> Result<(), CheckpointError>
     requires inside { IfSome (V.told vault.old.store) (λ fs. at ≤ length (file_of (image_name side) fs)) }
     requires runs { vault.old.stopped ≡ false }
-    ensures ok { OnOk result ((system.new ≡ system.old) × HasWritten V.told V.may_leave V.faults vault.old (image_name side) at bytes.now vault.new) }
-    ensures fault { OnErr result ((result ≡ Err Fault) × (system.new ≡ record system.old { state = store_stopped system.old.state }) × WriteHasFailed V.told V.may_leave V.faults vault.old (image_name side) at (length bytes.now) vault.new) }
+    ensures ok { OnOk result ((system.new ≡ system.old) × HasWritten V.Store vault.old (image_name side) at bytes.now vault.new) }
+    ensures fault { OnErr result ((result ≡ Err Fault) × (system.new ≡ record system.old { state = store_stopped system.old.state }) × WriteHasFailed V.Store vault.old (image_name side) at (length bytes.now) vault.new) }
     ensures end { vault.new.end ≡ vault.old.end }
     ensures files { IsNoShorter V.told vault.old vault.new }
     ensures any_moment { LeavesOnly V.moment V.left_since vault.old.store vault.new.store (TornFrom (V.may_leave vault.old.store) (image_name side) at (length bytes.now)) }
@@ -112,8 +112,8 @@ pub fn sync<V: Store>(
     side: Side,
 ) -> Result<(), CheckpointError>
     requires runs { vault.old.stopped ≡ false }
-    ensures ok { OnOk result ((system.new ≡ system.old) × HasSynced V.told V.may_leave V.faults vault.old (image_name side) vault.new) }
-    ensures fault { OnErr result ((result ≡ Err Fault) × (system.new ≡ record system.old { state = store_stopped system.old.state }) × SyncHasFailed V.told V.may_leave V.faults vault.old vault.new) }
+    ensures ok { OnOk result ((system.new ≡ system.old) × HasSynced V.Store vault.old (image_name side) vault.new) }
+    ensures fault { OnErr result ((result ≡ Err Fault) × (system.new ≡ record system.old { state = store_stopped system.old.state }) × SyncHasFailed V.Store vault.old vault.new) }
     ensures end { vault.new.end ≡ vault.old.end }
     ensures files { IsNoShorter V.told vault.old vault.new }
     ensures any_moment { LeavesOnly V.moment V.left_since vault.old.store vault.new.store (V.may_leave vault.old.store) }
@@ -132,8 +132,8 @@ pub fn sync<V: Store>(
 pub fn turn<V: Store>(system: &mut System, vault: &mut Vault<V>) -> Result<(), CheckpointError>
     requires small { vault.old.current < 2 ^ 62 }
     requires runs { vault.old.stopped ≡ false }
-    ensures ok { OnOk result ((system.new ≡ system.old) × HasTurned V.told V.may_leave V.faults vault.old vault.new) }
-    ensures fault { OnErr result ((result ≡ Err Fault) × (system.new ≡ record system.old { state = store_stopped system.old.state }) × TurnHasFailed V.told V.may_leave V.faults vault.old vault.new) }
+    ensures ok { OnOk result ((system.new ≡ system.old) × HasTurned V.Store vault.old vault.new) }
+    ensures fault { OnErr result ((result ≡ Err Fault) × (system.new ≡ record system.old { state = store_stopped system.old.state }) × TurnHasFailed V.Store vault.old vault.new) }
     ensures end { vault.new.end ≡ vault.old.end }
     ensures files { IsNoShorter V.told vault.old vault.new }
     ensures any_moment { Within V.told V.moment V.left_since vault.old vault.new (MayHaveMoved (V.may_leave vault.old.store) vault.old.current) }
@@ -157,10 +157,10 @@ pub fn write_region<V: Store>(
 ) -> Result<(), VaultError>
     requires inside { Reaches V.told side number vault.old }
     ensures stopped { vault.old.stopped ≡ true → (result ≡ Err VaultStopped) × (vault.new ≡ vault.old) }
-    ensures ok { OnOk result ((region.new ≡ cleaned side region.old) × HasWritten V.told V.may_leave V.faults vault.old (image_name side) (place_of number) (words_bytes region.old.back) vault.new) }
+    ensures ok { OnOk result ((region.new ≡ cleaned side region.old) × HasWritten V.Store vault.old (image_name side) (place_of number) (words_bytes region.old.back) vault.new) }
     ensures reaches { OnOk result (Reaches V.told side (number + 1) vault.new) }
     ensures same { OnErr result (region.new ≡ region.old) }
-    ensures fault { vault.old.stopped ≡ false → OnErr result ((result ≡ Err StoreFault) × WriteHasFailed V.told V.may_leave V.faults vault.old (image_name side) (place_of number) (length (words_bytes region.old.back)) vault.new) }
+    ensures fault { vault.old.stopped ≡ false → OnErr result ((result ≡ Err StoreFault) × WriteHasFailed V.Store vault.old (image_name side) (place_of number) (length (words_bytes region.old.back)) vault.new) }
     ensures end { vault.new.end ≡ vault.old.end }
     ensures files { IsNoShorter V.told vault.old vault.new }
     ensures any_moment { vault.old.stopped ≡ false → LeavesOnly V.moment V.left_since vault.old.store vault.new.store (TornFrom (V.may_leave vault.old.store) (image_name side) (place_of number) (length (words_bytes region.old.back))) }
@@ -243,10 +243,10 @@ pub fn write_run<V: Store>(
     ensures room { 65536 ≤ vec_capacity buffer.new }
     ensures stopped { vault.old.stopped ≡ true → (result ≡ Err VaultStopped) × (vault.new ≡ vault.old) }
     ensures ok { OnOk result (regions.new ≡ change (cleaned side) from (until - from) regions.old) }
-    ensures written { OnOk result (HasWritten V.told V.may_leave V.faults vault.old (image_name side) (place_of from) (bytes_between from (until - from) regions.old) vault.new) }
+    ensures written { OnOk result (HasWritten V.Store vault.old (image_name side) (place_of from) (bytes_between from (until - from) regions.old) vault.new) }
     ensures reaches { OnOk result (Reaches V.told side until vault.new) }
     ensures same { OnErr result (regions.new ≡ regions.old) }
-    ensures fault { vault.old.stopped ≡ false → OnErr result ((result ≡ Err StoreFault) × WriteHasFailed V.told V.may_leave V.faults vault.old (image_name side) (place_of from) (length (bytes_between from (until - from) regions.old)) vault.new) }
+    ensures fault { vault.old.stopped ≡ false → OnErr result ((result ≡ Err StoreFault) × WriteHasFailed V.Store vault.old (image_name side) (place_of from) (length (bytes_between from (until - from) regions.old)) vault.new) }
     ensures end { vault.new.end ≡ vault.old.end }
     ensures files { IsNoShorter V.told vault.old vault.new }
     ensures any_moment { vault.old.stopped ≡ false → LeavesOnly V.moment V.left_since vault.old.store vault.new.store (TornFrom (V.may_leave vault.old.store) (image_name side) (place_of from) (length (bytes_between from (until - from) regions.old))) }
@@ -280,12 +280,12 @@ pub fn next_run<V: Store>(
     ensures clean { is_first_dirty side (drop from regions.old) ≡ false → (regions.new ≡ regions.old) × (vault.new ≡ vault.old) }
     ensures skips { is_first_dirty side (drop from regions.old) ≡ false → OnErr result ⊥ }
     ensures written { is_first_dirty side (drop from regions.old) ≡ true → OnOk result
-        (HasWritten V.told V.may_leave V.faults vault.old (image_name side) (place_of from) (bytes_between from (run_of side (drop from regions.old)) regions.old) vault.new) }
+        (HasWritten V.Store vault.old (image_name side) (place_of from) (bytes_between from (run_of side (drop from regions.old)) regions.old) vault.new) }
     ensures stopped { is_first_dirty side (drop from regions.old) ≡ true → vault.old.stopped ≡ true → (result ≡ Err VaultStopped) × (vault.new ≡ vault.old) }
     ensures same { OnErr result (regions.new ≡ regions.old) }
     ensures fault { vault.old.stopped ≡ false → OnErr result (result ≡ Err StoreFault) }
     ensures failed { vault.old.stopped ≡ false → OnErr result
-        (WriteHasFailed V.told V.may_leave V.faults vault.old (image_name side) (place_of from) (length (bytes_between from (run_of side (drop from regions.old)) regions.old)) vault.new) }
+        (WriteHasFailed V.Store vault.old (image_name side) (place_of from) (length (bytes_between from (run_of side (drop from regions.old)) regions.old)) vault.new) }
     ensures end { vault.new.end ≡ vault.old.end }
     ensures files { IsNoShorter V.told vault.old vault.new }
     ensures any_moment { is_first_dirty side (drop from regions.old) ≡ true → vault.old.stopped ≡ false → LeavesOnly V.moment V.left_since vault.old.store vault.new.store

@@ -23,23 +23,23 @@ use Rattle.dali_region.specs.State.{RegionState, touched, taken_back}
 use Rattle.dali_att.specs.declared.state.State.{State}
 use Rattle.dali_att.specs.declared.state.State.TheVariants.{Live, Dead, Cleaning, Committed}
 use Rattle.dali_att.specs.Table.{undos_at, with_row, with_state, without_last}
-use Rattle.dali_system.specs.State.{TxnRow, SystemState, VaultState, row_of, state_of, state_in, hold_in, lock_of}
-use Rattle.dali_system.specs.Run.{covers}
-use Rattle.dali_system.specs.Steps.{in_state, back_logged}
-use Rattle.dali_system.specs.Keeps.{with_region, with_touched, may_log_in, moves_to, MayRecover, MayGiveBack, IsFree}
-use Rattle.dali_system.specs.Regions.{RegionStep, IsOpen, is_alive}
-use Rattle.dali_system.specs.Passes.{Audits}
-use Rattle.dali_system.specs.Wholes.{AreOfKind, is_of_kind, latched_in}
-use Rattle.dali_system.specs.Courses.{Claims as ClaimsTxn, Recovers, GivesBack as GivesTxnBack, TakesBack, Ends as EndsTxn, Moment, IsStepAt, IsStep, IsCourse}
-use Rattle.dali_system.proofs.Deaths.{region_with}
-use Rattle.dali_system.proofs.Tables.{but_last}
-use Rattle.dali_system.proofs.Touching.{join}
-use Rattle.dali_system.proofs.WholeSteps.{state_kinds, less_kinds}
-use Rattle.dali_core.specs.declared.take_back.TakeBack.{TakeBack}
-use Rattle.dali_core.specs.declared.want.Want.TheVariants.{Region}
-use Rattle.dali_core.specs.TakenBack.{next_undo, want_of, IsMadeOf, IsUndoBlock}
-use Rattle.dali_core.specs.Served.{Served}
-use Rattle.dali_facts.proofs.Ends.{empty_end_is_step}
+use Rattle.dali_runs.specs.State.{TxnRow, SystemState, VaultState, row_of, state_of, state_in, hold_in, lock_of}
+use Rattle.dali_runs.specs.Run.{covers}
+use Rattle.dali_runs.specs.Steps.{in_state, back_logged}
+use Rattle.dali_runs.specs.Keeps.{with_region, with_touched, may_log_in, moves_to, MayRecover, MayGiveBack, IsFree}
+use Rattle.dali_runs.specs.Regions.{RegionStep, IsOpen, is_alive}
+use Rattle.dali_runs.specs.Passes.{Audits}
+use Rattle.dali_runs.specs.Wholes.{AreOfKind, is_of_kind, latched_in}
+use Rattle.dali_runs.specs.Courses.{Claims as ClaimsTxn, Recovers, GivesBack as GivesTxnBack, TakesBack, Ends as EndsTxn, Moment, IsStepAt, IsStep, IsCourse}
+use Rattle.dali_runs.proofs.Deaths.{region_with}
+use Rattle.dali_runs.proofs.Tables.{but_last}
+use Rattle.dali_runs.proofs.Touching.{join}
+use Rattle.dali_runs.proofs.WholeSteps.{state_kinds, less_kinds}
+use Rattle.dali_system.specs.declared.take_back.TakeBack.{TakeBack}
+use Rattle.dali_system.specs.declared.want.Want.TheVariants.{Region}
+use Rattle.dali_system.specs.TakenBack.{next_undo, want_of, IsMadeOf, IsUndoBlock}
+use Rattle.dali_system.specs.Served.{Served}
+use Rattle.dali_runs.proofs.FactsLemmas.Ends.{empty_end_is_step}
 use Rattle.dali_calls.specs.Operating.{Goes, Undone, IsTakenBack}
 use Rattle.dali_calls.specs.TakingBack.{is_claimed}
 use Rattle.dali_calls.proofs.TakingBack.{taking_back_is_step, claimed_by, latched_of}

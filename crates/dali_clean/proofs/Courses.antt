@@ -12,16 +12,16 @@ use Rattle.dali_region.specs.State.{RegionState}
 use Rattle.dali_att.specs.declared.state.State.{State}
 use Rattle.dali_att.specs.declared.state.State.TheVariants.{Committed}
 use Rattle.dali_att.specs.Table.{undos_at}
-use Rattle.dali_system.specs.State.{TxnRow, SystemState, VaultState, state_of, state_in, lock_of}
-use Rattle.dali_system.specs.Run.{Bases, RunsOn, IsRow, covers, is_committed}
-use Rattle.dali_system.specs.Regions.{RegionStep, region_after, is_alive}
-use Rattle.dali_system.specs.Passes.{Audits}
-use Rattle.dali_system.specs.Courses.{Step, Moment, IsStepAt, IsCourse}
-use Rattle.dali_system.proofs.Courses.{bare_course_keeps}
-use Rattle.dali_system.proofs.WholeSteps.{whole_course_keeps}
-use Rattle.dali_facts.specs.Plans.{AtWork}
-use Rattle.dali_facts.specs.Undos.{MayBePerformed}
-use Rattle.dali_facts.proofs.Undos.{undos_may_be_performed}
+use Rattle.dali_runs.specs.State.{TxnRow, SystemState, VaultState, state_of, state_in, lock_of}
+use Rattle.dali_runs.specs.Run.{Bases, RunsOn, IsRow, covers, is_committed}
+use Rattle.dali_runs.specs.Regions.{RegionStep, region_after, is_alive}
+use Rattle.dali_runs.specs.Passes.{Audits}
+use Rattle.dali_runs.specs.Courses.{Step, Moment, IsStepAt, IsCourse}
+use Rattle.dali_runs.proofs.Courses.{bare_course_keeps}
+use Rattle.dali_runs.proofs.WholeSteps.{whole_course_keeps}
+use Rattle.dali_runs.specs.Facts.Plans.{AtWork}
+use Rattle.dali_runs.specs.Facts.Undos.{MayBePerformed}
+use Rattle.dali_runs.proofs.FactsLemmas.Undos.{undos_may_be_performed}
 use Rattle.dali_calls.specs.Operating.{Goes}
 use Rattle.dali_calls.proofs.Operating.{steps_on, alone_of}
 use Rattle.dali_calls.proofs.Rows.{undos_in}

@@ -7,9 +7,9 @@ use Rattle.dali_geometry.specs.Sizes.{Sizes}
 use Rattle.dali_geometry.specs.Places.{regions}
 use Rattle.dali_region.specs.State.{RegionState}
 use Rattle.dali_att.specs.Table.{undos_at}
-use Rattle.dali_system.specs.State.{TxnRow, SystemState, state_of, row_of, hold_in}
-use Rattle.dali_system.specs.Wholes.{AreOfKind, is_of_kind, latched_in}
-use Rattle.dali_system.proofs.Deaths.{region_with}
+use Rattle.dali_runs.specs.State.{TxnRow, SystemState, state_of, row_of, hold_in}
+use Rattle.dali_runs.specs.Wholes.{AreOfKind, is_of_kind, latched_in}
+use Rattle.dali_runs.proofs.Deaths.{region_with}
 use Rattle.dali_clean.specs.Cleaned.{MayClean}
 use Rattle.dali_clean.specs.Fit.{IsNamed, StandSo}
 use Rattle.dali_clean.proofs.Cleaning.{if_some_by, if_some_then}

@@ -9,8 +9,8 @@ use Rattle.dali_region.specs.declared.Hold.{Hold}
 use Rattle.dali_region.specs.State.{RegionState}
 use Rattle.dali_att.specs.declared.state.State.TheVariants.{Dead}
 use Rattle.dali_att.specs.Table.{undos_at}
-use Rattle.dali_system.specs.State.{SystemState, row_of, state_of, hold_in}
-use Rattle.dali_system.specs.Wholes.{is_of_kind, latched_in}
+use Rattle.dali_runs.specs.State.{SystemState, row_of, state_of, hold_in}
+use Rattle.dali_runs.specs.Wholes.{is_of_kind, latched_in}
 use Rattle.dali_clean.specs.Cleaned.{MayClean}
 use Rattle.dali_clean.proofs.Fitting.{kind_of}
 

@@ -6,3 +6,4 @@ pub mod Others
 pub mod Guards
 pub mod Flags
 pub mod Fitting
+pub mod CleanupLemmas

@@ -12,10 +12,10 @@ use Rattle.dali_att.specs.declared.state.State.TheVariants.{Dead, Cleaning}
 use Rattle.dali_att.specs.Table.{with_state, without_last}
 use Rattle.dali_att.proofs.Changes.{get-ended}
 use Rattle.dali_locks.proofs.Kept.{locks_without_at}
-use Rattle.dali_system.specs.State.{TxnRow, SystemState, row_of, state_in, hold_in}
-use Rattle.dali_system.specs.Steps.{in_state, back_logged, ended_logged}
-use Rattle.dali_core.specs.declared.take_back.TakeBack.{TakeBack}
-use Rattle.dali_core.specs.Served.{Served}
+use Rattle.dali_runs.specs.State.{TxnRow, SystemState, row_of, state_in, hold_in}
+use Rattle.dali_runs.specs.Steps.{in_state, back_logged, ended_logged}
+use Rattle.dali_system.specs.declared.take_back.TakeBack.{TakeBack}
+use Rattle.dali_system.specs.Served.{Served}
 use Rattle.dali_calls.specs.Operating.{Undone, IsTakenBack}
 use Rattle.dali_calls.specs.Others.{HoldStays}
 use Rattle.dali_calls.proofs.Rows.{row_here, row_apart}

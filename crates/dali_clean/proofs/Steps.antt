@@ -9,12 +9,12 @@ use Rattle.dali_record.specs.declared.records.Record.{Record}
 use Rattle.dali_att.specs.declared.state.State.TheVariants.{Dead, Cleaning}
 use Rattle.dali_att.specs.Table.{with_state, without_last}
 use Rattle.dali_region.specs.State.{RegionState}
-use Rattle.dali_system.specs.State.{SystemState, VaultState, CoreState, state_of, state_in}
-use Rattle.dali_system.specs.Run.{Bases}
-use Rattle.dali_system.specs.Passes.{Audits}
-use Rattle.dali_system.specs.Regions.{RegionStep, Latch, NoteReads, Update, TakeBack, Poke, Check, Die, Clean, region_after, is_alive}
-use Rattle.dali_system.specs.Courses.{Step, TakesBack, Ends, OnRegion, Claims, GivesBack, Recovers, Moment, IsStepAt, IsStep, IsCourse}
-use Rattle.dali_system.proofs.Touching.{join}
+use Rattle.dali_runs.specs.State.{SystemState, VaultState, CoreState, state_of, state_in}
+use Rattle.dali_runs.specs.Run.{Bases}
+use Rattle.dali_runs.specs.Passes.{Audits}
+use Rattle.dali_runs.specs.Regions.{RegionStep, Latch, NoteReads, Update, TakeBack, Poke, Check, Die, Clean, region_after, is_alive}
+use Rattle.dali_runs.specs.Courses.{Step, TakesBack, Ends, OnRegion, Claims, GivesBack, Recovers, Moment, IsStepAt, IsStep, IsCourse}
+use Rattle.dali_runs.proofs.Touching.{join}
 use Rattle.dali_calls.specs.Others.{is_apart_on, is_apart}
 use Rattle.dali_calls.specs.Operating.{IsOwn, Goes}
 use Rattle.dali_calls.proofs.Rows.{row_apart}

@@ -23,12 +23,12 @@ use Rattle.dali_region.specs.State.{RegionState, taken_back}
 use Rattle.dali_att.specs.declared.state.State.{State}
 use Rattle.dali_att.specs.declared.state.State.TheVariants.{Dead}
 use Rattle.dali_att.specs.Table.{undos_at}
-use Rattle.dali_system.specs.State.{SystemState, VaultState, CoreState, row_of, state_of, hold_in}
-use Rattle.dali_system.specs.Run.{Bases, no_image}
-use Rattle.dali_system.specs.Steps.{ended_logged}
-use Rattle.dali_system.specs.Passes.{Audits}
-use Rattle.dali_system.specs.Wholes.{IsWhole, AreOfKind, latched_in}
-use Rattle.dali_system.specs.Courses.{Step, GivesBack as GivesTxnBack, Ends as EndsTxn, Moment, IsCourse, RunsAt}
+use Rattle.dali_runs.specs.State.{SystemState, VaultState, CoreState, row_of, state_of, hold_in}
+use Rattle.dali_runs.specs.Run.{Bases, no_image}
+use Rattle.dali_runs.specs.Steps.{ended_logged}
+use Rattle.dali_runs.specs.Passes.{Audits}
+use Rattle.dali_runs.specs.Wholes.{IsWhole, AreOfKind, latched_in}
+use Rattle.dali_runs.specs.Courses.{Step, GivesBack as GivesTxnBack, Ends as EndsTxn, Moment, IsCourse, RunsAt}
 use Rattle.dali_calls.specs.TakingBack.{is_claimed}
 use Rattle.dali_clean.specs.Steps.{AreBack, IsClaim, IsCleanUp, AreBeside}
 

@@ -8,7 +8,7 @@ use Rattle.dali_region.specs.declared.Hold.{Hold}
 use Rattle.dali_region.specs.State.{RegionState}
 use Rattle.dali_att.specs.declared.state.State.{State}
 use Rattle.dali_att.specs.declared.state.State.TheVariants.{Dead}
-use Rattle.dali_system.specs.State.{hold_in}
+use Rattle.dali_runs.specs.State.{hold_in}
 
 abbrev pub HasLeft : List RegionState → ℕ → ℕ → Type 0
 HasLeft rs r t = (h : Hold) × (hold_in (slice_get rs r) ≡ Some h) × (h.txn ≡ t) × (h.dead ≡ true)

@@ -4,3 +4,4 @@ pub mod Steps
 pub mod Cleaned
 pub mod Others
 pub mod Fit
+pub mod Cleanup

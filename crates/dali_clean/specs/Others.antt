@@ -10,8 +10,8 @@ use Rattle.dali_region.specs.declared.Hold.{Hold}
 use Rattle.dali_region.specs.State.{RegionState}
 use Rattle.dali_att.specs.declared.state.State.TheVariants.{Dead}
 use Rattle.dali_att.specs.Table.{with_state}
-use Rattle.dali_system.specs.State.{SystemState, row_of, state_of, lock_of, hold_in}
-use Rattle.dali_core.specs.Served.{Served}
+use Rattle.dali_runs.specs.State.{SystemState, row_of, state_of, lock_of, hold_in}
+use Rattle.dali_system.specs.Served.{Served}
 use Rattle.dali_calls.specs.Flags.{FlagsStay}
 use Rattle.dali_calls.specs.Others.{HoldStays, PromisesStay, IsGone}
 use Rattle.dali_clean.specs.Cleaned.{IsDead}

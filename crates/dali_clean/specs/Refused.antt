@@ -1,7 +1,7 @@
 -- Why a clean-up is refused.
 --     clean_error e            by the error of the system
-use Rattle.dali_core.specs.declared.error.SystemError.{SystemError}
-use Rattle.dali_core.specs.declared.error.SystemError.TheVariants.{Stopped, LogFull, OutOfMemory}
+use Rattle.dali_system.specs.declared.error.SystemError.{SystemError}
+use Rattle.dali_system.specs.declared.error.SystemError.TheVariants.{Stopped, LogFull, OutOfMemory}
 use Rattle.dali_clean.specs.declared.error.CleanError.{CleanError}
 use Rattle.dali_clean.specs.declared.error.CleanError.TheVariants.{Stopped as CleanStopped, OutOfMemory as CleanMemory}
 

@@ -11,9 +11,9 @@
 use Rattle.std.specs.Prelude.{◌≡◌, ◌==◌, ⊤, ℕ, Bool, true, false, List, [], ◌∷◌, ◌++◌, Option, Some, None}
 use Rattle.std.specs.List.{list_all}
 use Rattle.dali_att.specs.declared.state.State.TheVariants.{Dead}
-use Rattle.dali_system.specs.State.{SystemState, state_of}
-use Rattle.dali_system.specs.Regions.{RegionStep, Latch, NoteReads, Update, TakeBack, is_alive}
-use Rattle.dali_system.specs.Courses.{Step, TakesBack, Ends, OnRegion, Claims, GivesBack, Recovers}
+use Rattle.dali_runs.specs.State.{SystemState, state_of}
+use Rattle.dali_runs.specs.Regions.{RegionStep, Latch, NoteReads, Update, TakeBack, is_alive}
+use Rattle.dali_runs.specs.Courses.{Step, TakesBack, Ends, OnRegion, Claims, GivesBack, Recovers}
 use Rattle.dali_calls.specs.Others.{is_apart}
 
 abbrev pub is_own_change : ℕ → RegionStep → Bool

@@ -5,8 +5,8 @@ use Rattle.std.specs.Prelude.{◌≡◌, ◌⊎◌, ℕ, Option, Some, None}
 use Rattle.dali_region.specs.declared.Hold.{Hold}
 use Rattle.dali_region.specs.State.{RegionState, taken_back}
 use Rattle.dali_att.specs.declared.state.State.TheVariants.{Dead, Cleaning}
-use Rattle.dali_system.specs.State.{SystemState, state_of}
-use Rattle.dali_system.specs.Steps.{in_state}
+use Rattle.dali_runs.specs.State.{SystemState, state_of}
+use Rattle.dali_runs.specs.Steps.{in_state}
 
 abbrev pub IsUnheld : RegionState → Type 0
 IsUnheld g = g.hold ≡ None

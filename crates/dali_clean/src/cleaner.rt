@@ -2,9 +2,9 @@
 ghost use Rattle.std.specs.Prelude.{◌≡◌, [], ℕ, Option as OptionOf, Some, None, Err, IfSome, IsSome, IfErr, OnOk, OnErr, IsErrOf, IsSomeAnd};
 ghost use Rattle.dali_att.specs.Table.{undos_at};
 ghost use Rattle.dali_att.specs.declared.state.State.TheVariants.{Dead};
-ghost use Rattle.dali_system.specs.State.{state_of};
-ghost use Rattle.dali_core.specs.Refused.{stop_refusal};
-ghost use Rattle.dali_core.specs.declared.error.SystemError.TheVariants.{OutOfMemory as Memory};
+ghost use Rattle.dali_runs.specs.State.{state_of};
+ghost use Rattle.dali_system.specs.Refused.{stop_refusal};
+ghost use Rattle.dali_system.specs.declared.error.SystemError.TheVariants.{OutOfMemory as Memory};
 ghost use Rattle.dali_calls.specs.Flags.{FlagsStay};
 ghost use Rattle.dali_clean.specs.declared.error.CleanError.TheVariants.{NotDead as IsNotDead, Stopped, OutOfMemory};
 ghost use Rattle.dali_clean.specs.Cleaned.{AreDead, MayClean, IsDead, IsLeftAt, IsRecovered, IsCleaning, Claims, LeadsOn, IsUndone, Ends, GivesBack};
@@ -12,8 +12,8 @@ ghost use Rattle.dali_clean.specs.Others.{OthersStay, HasKept, CleansOnly};
 
 use crate::error::CleanError;
 use crate::undoing::{release, undo};
-use dali_core::{NotDead, System, SystemError, TakeBack, Want};
 use dali_region::Region;
+use dali_system::{NotDead, System, SystemError, TakeBack, Want};
 
 // Takes back the operation in which the client died, where its region is still latched.
 fn recover(regions: &mut [Region], latched: Option<u32>)

@@ -1,7 +1,7 @@
 //! Why a clean-up was refused.
 
-use dali_core::{NotDead, SystemError};
-use dali_system::Cause;
+use dali_runs::Cause;
+use dali_system::{NotDead, SystemError};
 use thiserror::Error;
 
 /// Why a transaction wasn't cleaned up.

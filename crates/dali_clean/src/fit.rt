@@ -1,15 +1,15 @@
 //! Whether regions and system have what a clean-up asks.
 ghost use Rattle.std.specs.Prelude.{◌≡◌, true};
 ghost use Rattle.std.specs.List.{list_all};
-ghost use Rattle.dali_system.specs.Wholes.{is_of_kind, latched_in};
+ghost use Rattle.dali_runs.specs.Wholes.{is_of_kind, latched_in};
 ghost use Rattle.dali_clean.specs.Cleaned.{MayClean};
 ghost use Rattle.dali_clean.specs.Fit.{HasLeft, IsNamed, StandsSo, StandSo};
 
 use dali_att::State;
-use dali_core::System;
 use dali_geometry::Geometry;
 use dali_record::{Pending, on_kind, undo_op};
 use dali_region::{Hold, Region};
+use dali_system::System;
 
 /// Whether an undo is on a region of its kind.
 pub fn is_of_kind(geometry: Geometry, pending: &Pending) -> bool

@@ -2,6 +2,7 @@
 #![tactic(auto)]
 
 mod cleaner;
+pub mod cleanup;
 mod error;
 mod fit;
 pub mod laws;

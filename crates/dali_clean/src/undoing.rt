@@ -1,15 +1,15 @@
 //! One undo of a clean-up, on the region that it wants.
 ghost use Rattle.std.specs.Prelude.{◌≡◌, true, Err, None, IsSomeAnd, IfSome, OnOk, OnErr, IfErr};
 ghost use Rattle.dali_record.specs.Spelling.{IsUndo};
-ghost use Rattle.dali_core.specs.Refused.{stop_refusal};
-ghost use Rattle.dali_core.specs.declared.error.SystemError.TheVariants.{OutOfMemory as Memory};
+ghost use Rattle.dali_system.specs.Refused.{stop_refusal};
+ghost use Rattle.dali_system.specs.declared.error.SystemError.TheVariants.{OutOfMemory as Memory};
 ghost use Rattle.dali_calls.specs.Flags.{FlagStays};
 ghost use Rattle.dali_calls.specs.Operating.{Undone, IsTakenBack};
 ghost use Rattle.dali_clean.specs.Undone.{Released, IsUnheld};
 
 use dali_calls::write_back;
-use dali_core::{System, SystemError, TakeBack};
 use dali_region::Region;
+use dali_system::{System, SystemError, TakeBack};
 
 // Performs the undo that is last now, and logs its block. Where that is refused the words are taken back.
 pub(crate) fn undo(

@@ -1,9 +1,6 @@
-pub mod UnderWays
-pub mod Lowest
-pub mod Journals
-pub mod Rows
-pub mod Systems
-pub mod Guards
-pub mod RowsAre
-pub mod Totals
-pub mod Lights
+pub mod Flushing
+pub mod CleanedUp
+pub mod Moments
+pub mod Lengths
+pub mod VaultLemmas
+pub mod StepsLemmas

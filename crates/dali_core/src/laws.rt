@@ -1,16 +1,17 @@
-//! Laws of what is promised and of what is kept, each the contract of a function that does nothing.
-ghost use Rattle.dali_core.specs.Light.{RecordsAreLight};
-ghost use Rattle.dali_core.specs.Promised.{OwnChanges, OthersStay};
+//! Laws of whole cores over any store, each the contract of a function that does nothing.
+ghost use Rattle.dali_core.specs.Flushed.{CommittedStands};
+ghost use Rattle.dali_core.specs.Moments.{FlushIsRight};
 
-/// A promise, what is used of it, and its end change what is promised to their transaction, as they say, and leave what
-/// is promised to each other one.
-pub fn promises_stand_apart()
-    ensures own { OwnChanges }
-    ensures others { OthersStay }
+use dali_store::Store;
+
+/// Where all records of a core are flushed, as behind Ok of `flush`, each disk that a crash may leave spells files of
+/// whose log each committed transaction is committed.
+pub fn a_flushed_commit_is_in_each_crash_image<V: Store>()
+    ensures { CommittedStands V.Store }
 {}
 
-/// In a run the spellings of the records since the load have fewer than 2^40 bytes, so the limit of 2^62 for all of them
-/// is never met.
-pub fn the_records_of_a_run_are_light()
-    ensures { RecordsAreLight }
+/// Where a core stands at a point of a run, and its vault runs, each disk that a crash inside `flush` leaves spells files
+/// that restart right. They have what was flushed before, and maybe the records that are flushed now.
+pub fn a_crash_inside_a_flush_is_right<V: Store>()
+    ensures { FlushIsRight V.Store }
 {}

@@ -1,19 +1,14 @@
-//! The system: the log, the transaction table and the locks, and the calls that log a record.
+//! A whole core: regions, system and vault as one value, and what makes its records durable.
 #![tactic(auto)]
 
-mod error;
-mod journal;
+pub mod calls;
+mod cleaning;
+mod durable;
 pub mod laws;
-mod operation;
-mod promises;
-mod system;
-mod take_back;
-mod undos;
-mod want;
+pub mod steps;
+pub mod vault;
+mod whole;
 
-pub use error::{NotDead, SystemError};
-pub use journal::Journal;
-pub use operation::{OpenOperation, Operation};
-pub use system::System;
-pub use take_back::TakeBack;
-pub use want::Want;
+pub use cleaning::clean;
+pub use durable::{flush, write_out};
+pub use whole::Core;

@@ -1,5 +1,6 @@
-//! Tests of `dali_core`, `dali_clean` and `dali_cleanup`.
+//! Tests of `dali_system`, `dali_clean` and `dali_clean::cleanup`.
 #![tactic(auto)]
 
 #[cfg(test)]
 mod tests;
+mod whole;

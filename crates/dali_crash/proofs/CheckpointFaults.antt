@@ -3,12 +3,12 @@ use Rattle.std.proofs.Common.{◌≡◌, true, false, [], ◌∷◌, ◌⊎◌, 
 use Rattle.dali_record.specs.Files.{Files}
 use Rattle.dali_region.specs.declared.Side.TheVariants.{A}
 use Rattle.dali_region.specs.Answers.{cleaned}
-use Rattle.dali_system.specs.ImageSteps.{told_with}
+use Rattle.dali_runs.specs.ImageSteps.{told_with}
 use Rattle.dali_crash.specs.Checkpoints.{Point, Starts, Keeps, Copies, Skips, CopyFails, HeadFails, SyncFails, TurnFails, Finishes, target, head_with, synced_with, copies_with, copy_at, head_now, IsTurnedFrom, IsPointStep, with_fault, with_flag, Traced, Syncs}
 use Rattle.dali_crash.specs.Checkpointed.{new_head, no_head, checkpoint_start}
 use Rattle.dali_crash.specs.CheckpointFaults.{copy_fails, head_fails, sync_fails, turn_fails, WorkedFaults, starts_again}
 use Rattle.dali_crash.proofs.Checkpointed.{m7, m8, m9, m10, m16, m17, index_region, heap_region, step_7, step_8, step_10, step_17, may, crash, copied, files_2, files_3, to_audit, to_end, to_flush, turned_3, right, audit_on}
-use Rattle.dali_system.specs.Worked.{first_files}
+use Rattle.dali_runs.specs.Worked.{first_files}
 
 -- ---- a fault in a copy, behind a region that is skipped
 abbrev skipped : Point

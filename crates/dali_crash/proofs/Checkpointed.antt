@@ -9,23 +9,23 @@ use Rattle.dali_record.specs.Files.{Files}
 use Rattle.dali_region.specs.declared.Side.TheVariants.{A}
 use Rattle.dali_region.specs.State.{RegionState, loaded, checked}
 use Rattle.dali_region.specs.Answers.{cleaned}
-use Rattle.dali_system.specs.Steps.{begun, commit_logged, ended_logged, audit_begun, audit_ended, taken}
+use Rattle.dali_runs.specs.Steps.{begun, commit_logged, ended_logged, audit_begun, audit_ended, taken}
 use Rattle.dali_att.specs.declared.state.State.TheVariants.{Live, Committed}
-use Rattle.dali_system.specs.State.{state_of, stable}
-use Rattle.dali_system.specs.Passes.{audits_with, has_passed, has_found, IsVerdict}
-use Rattle.dali_system.specs.Keeps.{with_system, with_region, IsFree}
-use Rattle.dali_system.specs.Audits.{IsAuditing, MayLogEnd}
-use Rattle.dali_system.specs.Flushes.{with_vault, longer, frame_of}
-use Rattle.dali_system.specs.Courses.{Begins, Commits, Ends, AuditBegins, AuditEnds, Passes, Takes, Flushes, Step, Moment}
-use Rattle.dali_system.specs.ImageSteps.{told_with}
-use Rattle.dali_system.specs.Worked.{small, first_log, first_vault, first_files, formatted_files}
+use Rattle.dali_runs.specs.State.{state_of, stable}
+use Rattle.dali_runs.specs.Passes.{audits_with, has_passed, has_found, IsVerdict}
+use Rattle.dali_runs.specs.Keeps.{with_system, with_region, IsFree}
+use Rattle.dali_runs.specs.Audits.{IsAuditing, MayLogEnd}
+use Rattle.dali_runs.specs.Flushes.{with_vault, longer, frame_of}
+use Rattle.dali_runs.specs.Courses.{Begins, Commits, Ends, AuditBegins, AuditEnds, Passes, Takes, Flushes, Step, Moment}
+use Rattle.dali_runs.specs.ImageSteps.{told_with}
+use Rattle.dali_runs.specs.Worked.{small, first_log, first_vault, first_files, formatted_files}
 use Rattle.dali_crash.specs.Checkpoints.{Head, Copy, Point, Does, Starts, Keeps, copy_at, Copies, WritesHead, Syncs, Turns, Finishes, target, head_now, head_with, synced_with, copies_with, copies_after, IsCertified, MayTurn, IsPointStep, with_current, with_flag, Came, IsTurnedFrom, StoreStep, Traced, moment_of}
 use Rattle.dali_crash.specs.Checkpointed.{new_head, checkpoint_start, checkpoint_steps, WorkedCheckpoint, batches_2, batches_3, checkpoint_from, moved_files}
 use Rattle.dali_crash.proofs.Starts.{lawful}
 use Rattle.dali_crash.proofs.Courses.{format_is_history}
-use Rattle.dali_system.proofs.Worked.{logs_by}
-use Rattle.dali_system.proofs.RowStates.{begun_state, commit_state}
-use Rattle.dali_system.proofs.Touching.{passing}
+use Rattle.dali_runs.proofs.Worked.{logs_by}
+use Rattle.dali_runs.proofs.RowStates.{begun_state, commit_state}
+use Rattle.dali_runs.proofs.Touching.{passing}
 use Rattle.dali_crash.specs.Unpoked.{store_pokes}
 use Rattle.dali_crash.specs.Traces.{IsFreshImage, StartsAt}
 use Rattle.dali_crash.specs.StoreRuns.{CrashIsRightWith}

@@ -9,12 +9,12 @@ use Rattle.dali_record.specs.Epochs.{Epoch, Cut, cut}
 use Rattle.dali_record.specs.Legal.{sizes_of}
 use Rattle.dali_record.proofs.Pushes.{cut_push}
 use Rattle.dali_history.specs.Recovered.{recover, AreHonest}
-use Rattle.dali_system.specs.Run.{Bases}
-use Rattle.dali_system.specs.Loads.{IsAtRest}
-use Rattle.dali_system.specs.Courses.{Takes, Flushes, Moment}
-use Rattle.dali_system.proofs.OneMore.{is_inside, step_inside}
-use Rattle.dali_system.proofs.Loads.{format_rests}
-use Rattle.dali_system.proofs.Courses.{Goes, step_goes}
+use Rattle.dali_runs.specs.Run.{Bases}
+use Rattle.dali_runs.specs.Loads.{IsAtRest}
+use Rattle.dali_runs.specs.Courses.{Takes, Flushes, Moment}
+use Rattle.dali_runs.proofs.OneMore.{is_inside, step_inside}
+use Rattle.dali_runs.proofs.Loads.{format_rests}
+use Rattle.dali_runs.proofs.Courses.{Goes, step_goes}
 use Rattle.dali_crash.specs.Checkpoints.{Point, Does, IsPointCourse}
 use Rattle.dali_crash.specs.Restarts.{HasRightBase, CourseKeepsTheBase, FormatIsHistory}
 use Rattle.dali_crash.proofs.Restarts.{some_sizes}

@@ -12,14 +12,14 @@ use Rattle.dali_record.specs.Locks.{EndedBetween, IsLockLegalIn}
 use Rattle.dali_record.specs.Files.{Files}
 use Rattle.dali_record.proofs.Ends.{by_push}
 use Rattle.dali_record.proofs.Pushes.{cut_push, touch_within}
-use Rattle.dali_system.specs.State.{VaultState}
-use Rattle.dali_system.specs.Run.{base_at, VaultRun, log_in, IsPrefix}
+use Rattle.dali_runs.specs.State.{VaultState}
+use Rattle.dali_runs.specs.Run.{base_at, VaultRun, log_in, IsPrefix}
 use Rattle.dali_history.specs.Recovered.{IsHonestIn}
-use Rattle.dali_system.specs.Crashes.{NoneEscapes}
+use Rattle.dali_runs.specs.Crashes.{NoneEscapes}
 use Rattle.dali_crash.specs.CrashLogs.{cut_to, CrashLogs}
-use Rattle.dali_system.proofs.OneMore.{is_inside, step_inside}
+use Rattle.dali_runs.proofs.OneMore.{is_inside, step_inside}
 use Rattle.dali_crash.proofs.Honest.{stops_honest}
-use Rattle.dali_counts.proofs.Fronts.{prefix_legal}
+use Rattle.dali_runs.proofs.CountsLemmas.Fronts.{prefix_legal}
 use Rattle.std.proofs.lemmas.Option.{slice_get_within}
 use Rattle.dali_lists.proofs.Lists.{get_take, length_take}
 use Rattle.dali_record.proofs.Batches.{number_is_length}

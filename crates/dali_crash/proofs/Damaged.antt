@@ -7,16 +7,16 @@ use Rattle.dali_record.specs.Epochs.{last_epoch}
 use Rattle.dali_record.specs.Settled.{IsSoundAt}
 use Rattle.dali_record.specs.Legal.{passes, rules_start}
 use Rattle.dali_geometry.specs.Places.{formatted_image}
-use Rattle.dali_index.specs.Entries.{entries}
+use Rattle.dali_access.specs.Index.Entries.{entries}
 use Rattle.dali_history.specs.Acknowledged.{IsDeletedByChain}
-use Rattle.dali_system.specs.Run.{log_in}
-use Rattle.dali_system.specs.Worked.{small, first_log, first_vault, damaged_look, damage, first_files}
-use Rattle.dali_system.proofs.Damage.{finish, crash, damage_trace, none_escapes}
+use Rattle.dali_runs.specs.Run.{log_in}
+use Rattle.dali_runs.specs.Worked.{small, first_log, first_vault, damaged_look, damage, first_files}
+use Rattle.dali_runs.proofs.Damage.{finish, crash, damage_trace, none_escapes}
 use Rattle.dali_crash.specs.Damaged.{DamagedRun}
 use Rattle.dali_crash.specs.Restarts.{RestartsRight}
 use Rattle.dali_crash.proofs.Courses.{format_is_history}
 use Rattle.dali_crash.proofs.Traces.{every_core_trace_is_right}
-use Rattle.dali_system.proofs.Worked.{first_store}
+use Rattle.dali_runs.proofs.Worked.{first_store}
 
 restarts : RestartsRight first_log finish.core crash
 unfolding damaged_look entries

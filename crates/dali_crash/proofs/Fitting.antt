@@ -10,8 +10,8 @@ use Rattle.dali_record.specs.declared.records.Record.{Record}
 use Rattle.dali_record.specs.Epochs.{Epoch, next_number, epochs, clean_place}
 use Rattle.dali_record.specs.Settled.{words_in, redo_all}
 use Rattle.dali_record.specs.Files.{is_epoch_for}
-use Rattle.dali_system.proofs.OneMoreTouch.{length-redo_all}
-use Rattle.dali_system.proofs.Redone.{redone_to}
+use Rattle.dali_runs.proofs.OneMoreTouch.{length-redo_all}
+use Rattle.dali_runs.proofs.Redone.{redone_to}
 use Rattle.dali_crash.specs.Fitting.{ButIsWhole, RedoesTheEpoch}
 
 pub but_is_whole : ButIsWhole

@@ -5,10 +5,10 @@ use Rattle.dali_lists.proofs.Options.{some_same}
 use Rattle.dali_record.specs.declared.records.Record.{Record}
 use Rattle.dali_record.specs.Files.{Files}
 use Rattle.dali_region.specs.declared.Side.{Side}
-use Rattle.dali_system.specs.State.{CoreState}
-use Rattle.dali_system.specs.ImageSteps.{same_side, told_with}
-use Rattle.dali_system.specs.Flushes.{frame_of, with_batch}
-use Rattle.dali_system.specs.Courses.{Step, Begins, Operates, Answers, AuditEnds, OnRegion, Dies, GivesBack, Recovers, Stops, Checkpoints, Takes, Flushes, ReadFails, Moment, IsStepAt}
+use Rattle.dali_runs.specs.State.{CoreState}
+use Rattle.dali_runs.specs.ImageSteps.{same_side, told_with}
+use Rattle.dali_runs.specs.Flushes.{frame_of, with_batch}
+use Rattle.dali_runs.specs.Courses.{Step, Begins, Operates, Answers, AuditEnds, OnRegion, Dies, GivesBack, Recovers, Stops, Checkpoints, Takes, Flushes, ReadFails, Moment, IsStepAt}
 use Rattle.dali_crash.specs.Checkpoints.{Head, Copy, Point, pass_copy, passes_region, target, head_with, synced_with, StoreStep, Does, Starts, Keeps, Copies, Skips, WritesHead, Syncs, Turns, CopyFails, HeadFails, SyncFails, TurnFails, Finishes, is_of_checkpoint, IsPointCourse, Came, IsPointStep, moment_of}
 use Rattle.dali_crash.specs.StoreRuns.{point_start, FlagTells, FlagStays, CourseFlagTells, FlagChanges, LeavesImages, IdleLeavesImages, KeptStays, IsLeft, SyncedStays}
 use Rattle.dali_crash.proofs.StepLeaves.{vault_goes, core_came}

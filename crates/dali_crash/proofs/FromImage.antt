@@ -19,7 +19,7 @@ use Rattle.dali_record.proofs.Pushes.{marks_push}
 use Rattle.dali_record.proofs.Chains.{marks-records}
 use Rattle.dali_record.proofs.Batches.{clean_grows}
 use Rattle.dali_history.specs.Recovered.{roll_back, freed, losers, undos_left}
-use Rattle.dali_system.proofs.OneMoreTouch.{length-redo_all}
+use Rattle.dali_runs.proofs.OneMoreTouch.{length-redo_all}
 use Rattle.dali_crash.specs.Fitting.{FitsWhole, RecoversFromImage}
 use Rattle.dali_crash.proofs.Fitting.{found_is, within_epoch}
 

@@ -6,15 +6,15 @@ use Rattle.dali_record.specs.declared.records.Record.{Record}
 use Rattle.dali_record.specs.Log.{committed}
 use Rattle.dali_history.proofs.Chained.{keeps_committed}
 use Rattle.dali_history.specs.Acknowledged.{KeepsCommitted}
-use Rattle.dali_system.specs.State.{VaultState, stable}
-use Rattle.dali_system.specs.Run.{Bases, no_image}
-use Rattle.dali_system.specs.Crashes.{IsAcknowledged}
+use Rattle.dali_runs.specs.State.{VaultState, stable}
+use Rattle.dali_runs.specs.Run.{Bases, no_image}
+use Rattle.dali_runs.specs.Crashes.{IsAcknowledged}
 use Rattle.dali_crash.specs.Checkpoints.{Point, StoreStep, Does, Starts, Keeps, Copies, Skips, WritesHead, Syncs, Turns, CopyFails, HeadFails, SyncFails, TurnFails, Finishes, IsPointStep, IsPointCourse, moment_of}
 use Rattle.dali_crash.specs.Growth.{CourseGrows}
 use Rattle.dali_crash.proofs.StepLeaves.{vault_goes}
 use Rattle.dali_crash.proofs.StoreRuns.{store_step_none}
 use Rattle.dali_crash.proofs.StoreStarts.{store_goes}
-use Rattle.dali_system.specs.Courses.{RunsAt}
+use Rattle.dali_runs.specs.Courses.{RunsAt}
 
 -- ---- the vault
 record Grows (v w : VaultState) : Type 0 where

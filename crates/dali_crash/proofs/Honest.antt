@@ -21,11 +21,11 @@ use Rattle.dali_record.proofs.Batches.{clean_grows}
 use Rattle.dali_record.proofs.EpochRules.{kind_in}
 use Rattle.dali_region.specs.State.{RegionState}
 use Rattle.dali_history.proofs.ByEpochs.{next_from}
-use Rattle.dali_system.specs.Run.{base_at, RegionRun, blocks_on}
+use Rattle.dali_runs.specs.Run.{base_at, RegionRun, blocks_on}
 use Rattle.dali_crash.specs.CrashLogs.{cut_to, StopsHonest, UnpokedHonest, UnpokedEscapesNone}
-use Rattle.dali_system.proofs.OneMore.{is_inside, step_inside}
-use Rattle.dali_system.proofs.OneMoreTouch.{before_less, blocks_on-take}
-use Rattle.dali_counts.proofs.Tallies.{if_kept, if_none}
+use Rattle.dali_runs.proofs.OneMore.{is_inside, step_inside}
+use Rattle.dali_runs.proofs.OneMoreTouch.{before_less, blocks_on-take}
+use Rattle.dali_runs.proofs.CountsLemmas.Tallies.{if_kept, if_none}
 
 -- ---- the clean place only rises
 

@@ -13,13 +13,13 @@ use Rattle.dali_record.specs.Settled.{words_in, redo_all}
 use Rattle.dali_record.specs.Files.{Files, row_of, next_after, table_before}
 use Rattle.dali_record.proofs.Batches.{first_of_plain, number_is_length, Placed, placed_still}
 use Rattle.dali_region.specs.State.{RegionState}
-use Rattle.dali_system.specs.State.{VaultState}
-use Rattle.dali_system.specs.Run.{Bases, log_in}
-use Rattle.dali_system.specs.Flushes.{with_batch, with_frame}
-use Rattle.dali_system.specs.Courses.{Moment}
-use Rattle.dali_system.proofs.OneMore.{is_inside, one_more, last_epoch-push}
-use Rattle.dali_system.proofs.Flushes.{log_with}
-use Rattle.dali_system.proofs.Courses.{Goes}
+use Rattle.dali_runs.specs.State.{VaultState}
+use Rattle.dali_runs.specs.Run.{Bases, log_in}
+use Rattle.dali_runs.specs.Flushes.{with_batch, with_frame}
+use Rattle.dali_runs.specs.Courses.{Moment}
+use Rattle.dali_runs.proofs.OneMore.{is_inside, one_more, last_epoch-push}
+use Rattle.dali_runs.proofs.Flushes.{log_with}
+use Rattle.dali_runs.proofs.Courses.{Goes}
 use Rattle.dali_crash.specs.Checkpoints.{Head, Copy}
 use Rattle.dali_crash.specs.StoreRuns.{IsSettledAt, IsCopied, IsPlace, IsKept}
 use Rattle.dali_crash.proofs.StepLeaves.{Onward}

@@ -24,3 +24,4 @@ pub mod Growth
 pub mod Traces
 pub mod Rests
 pub mod Closing
+pub mod DisksLemmas

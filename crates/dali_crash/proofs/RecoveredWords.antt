@@ -8,8 +8,8 @@ use Rattle.dali_words.specs.Words.{has_first, first_or, rest_of, write_under, Al
 use Rattle.dali_words.specs.Effects.{write_all}
 use Rattle.dali_geometry.specs.Sizes.{Sizes}
 use Rattle.dali_geometry.specs.Places.{formatted_image, regions}
-use Rattle.dali_heap.specs.Cells as cell
-use Rattle.dali_index.specs.Entries as entry
+use Rattle.dali_access.specs.Heap.Cells as cell
+use Rattle.dali_access.specs.Index.Entries as entry
 use Rattle.dali_record.specs.declared.operations.Block.{Block}
 use Rattle.dali_record.specs.declared.operations.Pending.{Pending}
 use Rattle.dali_record.specs.declared.operations.Undo.{Undo}

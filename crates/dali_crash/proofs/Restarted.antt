@@ -13,8 +13,8 @@ use Rattle.dali_record.specs.Spelling.{IsBlock}
 use Rattle.dali_record.specs.Legal.{sizes_of}
 use Rattle.dali_record.specs.Files.{Files}
 use Rattle.dali_record.proofs.Made.{made_is_block}
-use Rattle.dali_index.specs.Entries.{entries}
-use Rattle.dali_heap.specs.Cells.{cells}
+use Rattle.dali_access.specs.Index.Entries.{entries}
+use Rattle.dali_access.specs.Heap.Cells.{cells}
 use Rattle.dali_words.specs.Values.{IsValue}
 use Rattle.dali_region.specs.State.{RegionState, loaded, touched}
 use Rattle.dali_locks.specs.declared.mode.Mode.{Mode}
@@ -24,19 +24,19 @@ use Rattle.dali_locks.proofs.Changes.{get-locks_with}
 use Rattle.dali_att.specs.Table.{fresh_row}
 use Rattle.dali_history.specs.Recovered.{recovered}
 use Rattle.dali_history.specs.History.{IsHistory}
-use Rattle.dali_system.specs.State.{TxnRow, state_of}
-use Rattle.dali_system.specs.Run.{covers}
-use Rattle.dali_system.specs.Steps.{begun, granted, op_logged, done_logged, commit_logged, taken}
-use Rattle.dali_system.specs.Keeps.{with_system}
-use Rattle.dali_system.specs.Flushes.{with_vault, longer, frame_of}
-use Rattle.dali_system.specs.Courses.{Step, Begins, Operates, Answers, Commits, Locks as Asks, Takes, Flushes, Moment, IsStepAt, IsCourse, CameBy, CoreTraced}
-use Rattle.dali_system.specs.Worked.{small, opening, touching, first_log}
-use Rattle.dali_system.proofs.Loads.{no_lock}
-use Rattle.dali_system.proofs.Tables.{added}
-use Rattle.dali_system.proofs.RowStates.{begun_state, op_state}
+use Rattle.dali_runs.specs.State.{TxnRow, state_of}
+use Rattle.dali_runs.specs.Run.{covers}
+use Rattle.dali_runs.specs.Steps.{begun, granted, op_logged, done_logged, commit_logged, taken}
+use Rattle.dali_runs.specs.Keeps.{with_system}
+use Rattle.dali_runs.specs.Flushes.{with_vault, longer, frame_of}
+use Rattle.dali_runs.specs.Courses.{Step, Begins, Operates, Answers, Commits, Locks as Asks, Takes, Flushes, Moment, IsStepAt, IsCourse, CameBy, CoreTraced}
+use Rattle.dali_runs.specs.Worked.{small, opening, touching, first_log}
+use Rattle.dali_runs.proofs.Loads.{no_lock}
+use Rattle.dali_runs.proofs.Tables.{added}
+use Rattle.dali_runs.proofs.RowStates.{begun_state, op_state}
 use Rattle.dali_att.specs.declared.state.State.TheVariants.{Live}
-use Rattle.dali_system.proofs.Touching.{with_one, after_all, touches, is_flush, join_traces, quiet_trace}
-use Rattle.dali_system.proofs.Worked.{logging, logs_by, alive_by, strongest}
+use Rattle.dali_runs.proofs.Touching.{with_one, after_all, touches, is_flush, join_traces, quiet_trace}
+use Rattle.dali_runs.proofs.Worked.{logging, logs_by, alive_by, strongest}
 use Rattle.dali_crash.specs.Starts.{IsRestarted}
 use Rattle.dali_crash.specs.Checkpoints.{Point, Does, Traced, moment_of}
 use Rattle.dali_crash.specs.StoreRuns.{CrashIsRightWith}

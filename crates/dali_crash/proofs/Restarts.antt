@@ -19,14 +19,14 @@ use Rattle.dali_history.specs.Acknowledged.{KeepsCommitted}
 use Rattle.dali_history.specs.Promise.{RestartIsRight}
 use Rattle.dali_history.proofs.Restarts.{restarted, honest_push}
 use Rattle.dali_history.proofs.Chained.{keeps_committed}
-use Rattle.dali_headline.proofs.NothingToFree.{recovered-restarted_history, recovered-base}
-use Rattle.dali_headline.proofs.Headline.{restart_is_right}
-use Rattle.dali_system.specs.State.{CoreState, stable, log_after}
-use Rattle.dali_system.specs.Run.{Bases, base_at, log_in, IsRun, IsPrefix, only}
+use Rattle.dali_history.proofs.HeadlineLemmas.NothingToFree.{recovered-restarted_history, recovered-base}
+use Rattle.dali_history.proofs.HeadlineLemmas.Headline.{restart_is_right}
+use Rattle.dali_runs.specs.State.{CoreState, stable, log_after}
+use Rattle.dali_runs.specs.Run.{Bases, base_at, log_in, IsRun, IsPrefix, only}
 use Rattle.dali_crash.specs.CrashLogs.{cut_to, IsCrashLog}
 use Rattle.dali_crash.specs.Restarts.{HasRightBase, FormatHasRightBase, RestartHasRightBase, CrashIsHistory, CrashIsRight, RestartsRight, RunIsRight, FlushedStays, AcknowledgedStays}
 use Rattle.dali_crash.proofs.CrashLogs.{crash_logs, cut_parts, first_before, flushed_stays}
-use Rattle.dali_system.specs.Crashes.{NoneEscapes}
+use Rattle.dali_runs.specs.Crashes.{NoneEscapes}
 
 -- ---- the sizes
 pub sizes_take : (s : Sizes) (L : List Record) (n : ℕ) → slice_get L 0 ≡ Some (Format s.index s.heap) → 0 < n → sizes_of (take n L) ≡ s

@@ -21,10 +21,10 @@ use Rattle.dali_history.specs.Recovered.{recovered}
 use Rattle.dali_history.specs.History.{IsHistory}
 use Rattle.dali_history.specs.Promise.{RestartsAs}
 use Rattle.dali_crash.proofs.RecoveredWords.{recovered_count}
-use Rattle.dali_headline.proofs.Headline.{restart_is_right}
-use Rattle.dali_system.specs.Run.{Bases, base_at, log_in}
-use Rattle.dali_system.specs.Images.{FitsBut}
-use Rattle.dali_system.proofs.LastEpochs.{found_for, sooner, end_before}
+use Rattle.dali_history.proofs.HeadlineLemmas.Headline.{restart_is_right}
+use Rattle.dali_runs.specs.Run.{Bases, base_at, log_in}
+use Rattle.dali_runs.specs.Images.{FitsBut}
+use Rattle.dali_runs.proofs.LastEpochs.{found_for, sooner, end_before}
 use Rattle.dali_crash.specs.Starts.{IsFormatted, IsRestarted, FreshFits, RestartStarts, IsLawful, HistoryIsLawful}
 
 -- ---- an epoch without records

@@ -7,11 +7,11 @@ use Rattle.dali_region.specs.declared.Side.{Side}
 use Rattle.dali_region.specs.declared.Side.TheVariants.{A, B}
 use Rattle.dali_region.specs.State.{RegionState, touched, checked, wrote}
 use Rattle.dali_region.specs.Answers.{is_dirty}
-use Rattle.dali_system.specs.State.{CoreState}
-use Rattle.dali_system.specs.Regions.{RegionStep, TakeBack, Check, Die, Clean, region_after}
-use Rattle.dali_system.specs.ImageSteps.{clears}
-use Rattle.dali_system.specs.Courses.{Step, Begins, Operates, TakesBack, Frees, Answers, AuditEnds, OnRegion, Passes, Dies, Claims, GivesBack, Recovers, Stops, Checkpoints, Takes, Flushes, Faults, ReadFails, Moment, IsStepAt}
-use Rattle.dali_system.proofs.Deaths.{region_with, dead_at}
+use Rattle.dali_runs.specs.State.{CoreState}
+use Rattle.dali_runs.specs.Regions.{RegionStep, TakeBack, Check, Die, Clean, region_after}
+use Rattle.dali_runs.specs.ImageSteps.{clears}
+use Rattle.dali_runs.specs.Courses.{Step, Begins, Operates, TakesBack, Frees, Answers, AuditEnds, OnRegion, Passes, Dies, Claims, GivesBack, Recovers, Stops, Checkpoints, Takes, Flushes, Faults, ReadFails, Moment, IsStepAt}
+use Rattle.dali_runs.proofs.Deaths.{region_with, dead_at}
 use Rattle.dali_crash.specs.Checkpoints.{is_of_checkpoint}
 
 -- the flag of each side was clear, where it is

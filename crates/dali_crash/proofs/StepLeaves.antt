@@ -8,12 +8,12 @@ use Rattle.dali_record.specs.declared.records.Record.{Record}
 use Rattle.dali_record.specs.Files.{Files}
 use Rattle.dali_region.specs.declared.Side.TheVariants.{A, B}
 use Rattle.dali_region.specs.State.{RegionState, touched, checked}
-use Rattle.dali_system.specs.State.{VaultState, CoreState}
-use Rattle.dali_system.specs.Regions.{RegionStep, Latch, NoteReads, Update, TakeBack, Poke, Check, Die, Clean, region_after}
-use Rattle.dali_system.specs.Flushes.{frame_of, with_frame, longer}
-use Rattle.dali_system.proofs.Deaths.{region_with, dead_at}
-use Rattle.dali_system.specs.Courses.{Step, Begins, Operates, TakesBack, Frees, Answers, Commits, Ends, AuditBegins, AuditEnds, Locks, Refuses, OnRegion, Passes, Dies, Claims, GivesBack, Recovers, Stops, Checkpoints, Takes, Flushes, Faults, ReadFails, Moment, IsStepAt, CameBy}
-use Rattle.dali_system.proofs.Flushes.{longer_flushed}
+use Rattle.dali_runs.specs.State.{VaultState, CoreState}
+use Rattle.dali_runs.specs.Regions.{RegionStep, Latch, NoteReads, Update, TakeBack, Poke, Check, Die, Clean, region_after}
+use Rattle.dali_runs.specs.Flushes.{frame_of, with_frame, longer}
+use Rattle.dali_runs.proofs.Deaths.{region_with, dead_at}
+use Rattle.dali_runs.specs.Courses.{Step, Begins, Operates, TakesBack, Frees, Answers, Commits, Ends, AuditBegins, AuditEnds, Locks, Refuses, OnRegion, Passes, Dies, Claims, GivesBack, Recovers, Stops, Checkpoints, Takes, Flushes, Faults, ReadFails, Moment, IsStepAt, CameBy}
+use Rattle.dali_runs.proofs.Flushes.{longer_flushed}
 use Rattle.dali_crash.specs.Checkpoints.{answers_none, passes_region}
 
 -- ---- the vault, and a crash image

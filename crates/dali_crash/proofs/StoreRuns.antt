@@ -18,30 +18,30 @@ use Rattle.dali_region.specs.declared.Side.{Side}
 use Rattle.dali_region.specs.declared.Side.TheVariants.{A, B}
 use Rattle.dali_region.specs.State.{RegionState}
 use Rattle.dali_region.specs.Answers.{is_dirty, cleaned}
-use Rattle.dali_counts.proofs.Tallies.{numbers, tallies, numbers_drawn}
-use Rattle.dali_system.specs.State.{VaultState, CoreState, stable, log_after}
-use Rattle.dali_system.specs.Run.{Bases, log_in, RunsOn, IsPrefix, VaultRun, HasRisen, no_image, only}
-use Rattle.dali_system.specs.Regions.{Clean}
-use Rattle.dali_system.specs.Keeps.{with_region}
-use Rattle.dali_system.specs.Flushes.{faulted, frame_of, with_frame}
-use Rattle.dali_system.specs.Courses.{Step, OnRegion, Checkpoints, Flushes, Faults, Moment, IsStepAt, RunsAt}
-use Rattle.dali_system.specs.Images.{Told, FilesRun, FitsBut, is_missed, ImageRun}
-use Rattle.dali_system.specs.ImageSteps.{same_side, told_with}
-use Rattle.dali_system.proofs.Courses.{Goes, step_goes, LeavesBy, fewer, step_keeps_none, step_runs, run_less, runs_on}
-use Rattle.dali_system.proofs.Flushes.{risen_since, no_less, fault_keeps}
+use Rattle.dali_runs.proofs.CountsLemmas.Tallies.{numbers, tallies, numbers_drawn}
+use Rattle.dali_runs.specs.State.{VaultState, CoreState, stable, log_after}
+use Rattle.dali_runs.specs.Run.{Bases, log_in, RunsOn, IsPrefix, VaultRun, HasRisen, no_image, only}
+use Rattle.dali_runs.specs.Regions.{Clean}
+use Rattle.dali_runs.specs.Keeps.{with_region}
+use Rattle.dali_runs.specs.Flushes.{faulted, frame_of, with_frame}
+use Rattle.dali_runs.specs.Courses.{Step, OnRegion, Checkpoints, Flushes, Faults, Moment, IsStepAt, RunsAt}
+use Rattle.dali_runs.specs.Images.{Told, FilesRun, FitsBut, is_missed, ImageRun}
+use Rattle.dali_runs.specs.ImageSteps.{same_side, told_with}
+use Rattle.dali_runs.proofs.Courses.{Goes, step_goes, LeavesBy, fewer, step_keeps_none, step_runs, run_less, runs_on}
+use Rattle.dali_runs.proofs.Flushes.{risen_since, no_less, fault_keeps}
 use Rattle.dali_record.specs.declared.records.Record.TheVariants.{Format}
-use Rattle.dali_system.proofs.FlushedImages.{frame_inside, faulted_images, flushed_images}
+use Rattle.dali_runs.proofs.FlushedImages.{frame_inside, faulted_images, flushed_images}
 use Rattle.dali_crash.specs.Checkpoints.{Head, Copy, Point, Does, Starts, Keeps, IsUntouched, copy_at, Copies, Skips, WritesHead, Syncs, Turns, CopyFails, HeadFails, SyncFails, TurnFails, Finishes, side_of, image_side, target, copies_with, head_now, pass_copy, passes_region, copies_after, is_of_checkpoint, image_in, MayHold, turned, MayTurn, IsFault, with_fault, with_current, with_flag, Came, IsOverwritten, IsPointStep, StoreStep, moment_of}
 use Rattle.dali_crash.specs.StoreRuns.{IsCopied, IsKept, AreWritten, StoreRun, CurrentIsSmall, StoreStepKeeps, StoreCourseKeeps, TurnEnds, BareStoreCourseKeeps, TurnLeaves}
 use Rattle.dali_words.specs.Words.{AreWords}
 use Rattle.dali_record.proofs.Batches.{number_is_length, got_none}
-use Rattle.dali_counts.proofs.SmallLogs.{is_small}
+use Rattle.dali_runs.proofs.CountsLemmas.SmallLogs.{is_small}
 use Rattle.dali_crash.proofs.StepFlags.{flags_go}
 use Rattle.dali_crash.proofs.StepLeaves.{VaultGoes, vault_goes, RegionGoes, regions_go, core_came}
 use Rattle.dali_crash.proofs.Kept.{held_frame, kept_goes, copied_goes, copied_onward}
 use Rattle.dali_crash.proofs.Turned.{IsRightPlace, turned_fits}
 use Rattle.dali_crash.proofs.Untouched.{untouched_words}
-use Rattle.dali_system.proofs.ImageSteps.{copy_kept, images_fewer, images_kept}
+use Rattle.dali_runs.proofs.ImageSteps.{copy_kept, images_fewer, images_kept}
 
 -- ---- sides
 -- the next checkpoint isn't written where the current image stands

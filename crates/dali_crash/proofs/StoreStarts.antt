@@ -10,11 +10,11 @@ use Rattle.dali_region.specs.State.{RegionState, loaded}
 use Rattle.dali_region.specs.Answers.{is_dirty}
 use Rattle.dali_history.specs.Recovered.{recover, base_of, recovered_now, recovered}
 use Rattle.dali_history.specs.History.{IsHistory}
-use Rattle.dali_headline.proofs.EpochByEpoch.{base_holds}
-use Rattle.dali_headline.proofs.NothingToFree.{recover_nothing}
-use Rattle.dali_system.specs.Run.{Bases}
-use Rattle.dali_system.specs.Courses.{Moment}
-use Rattle.dali_system.proofs.Courses.{Goes, step_goes}
+use Rattle.dali_history.proofs.HeadlineLemmas.EpochByEpoch.{base_holds}
+use Rattle.dali_history.proofs.HeadlineLemmas.NothingToFree.{recover_nothing}
+use Rattle.dali_runs.specs.Run.{Bases}
+use Rattle.dali_runs.specs.Courses.{Moment}
+use Rattle.dali_runs.proofs.Courses.{Goes, step_goes}
 use Rattle.dali_crash.specs.Restarts.{HasRightBase}
 use Rattle.dali_crash.specs.Checkpoints.{Point, StoreStep, Does, Keeps, Copies, Skips, Turns, CopyFails, TurnFails, IsPointStep, IsPointCourse, moment_of}
 use Rattle.dali_crash.proofs.Courses.{base_goes}

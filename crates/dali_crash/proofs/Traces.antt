@@ -14,15 +14,15 @@ use Rattle.dali_record.specs.Files.{Files, batch_length}
 use Rattle.dali_record.specs.Spelling.{record_length}
 use Rattle.dali_region.specs.Answers.{is_dirty}
 use Rattle.dali_history.specs.Recovered.{recover, base_of, recovered}
-use Rattle.dali_headline.proofs.NothingToFree.{recovered-base}
-use Rattle.dali_system.specs.State.{CoreState, VaultState, stable, log_after}
-use Rattle.dali_system.specs.Run.{Bases, LogRun, HasRisen, IsPrefix, log_in, VaultRun, no_image, only}
-use Rattle.dali_system.specs.Crashes.{NoneEscapes}
-use Rattle.dali_system.specs.Flushes.{with_vault, faulted}
-use Rattle.dali_system.specs.Courses.{Step, Flushes, Faults, Moment, IsCourse, CoreTraced, RunsAt}
-use Rattle.dali_system.specs.Images.{FitsBut, is_missed}
-use Rattle.dali_system.proofs.Loads.{empty_rests}
-use Rattle.dali_system.proofs.Courses.{load_runs_with, course_keeps, with_none}
+use Rattle.dali_history.proofs.HeadlineLemmas.NothingToFree.{recovered-base}
+use Rattle.dali_runs.specs.State.{CoreState, VaultState, stable, log_after}
+use Rattle.dali_runs.specs.Run.{Bases, LogRun, HasRisen, IsPrefix, log_in, VaultRun, no_image, only}
+use Rattle.dali_runs.specs.Crashes.{NoneEscapes}
+use Rattle.dali_runs.specs.Flushes.{with_vault, faulted}
+use Rattle.dali_runs.specs.Courses.{Step, Flushes, Faults, Moment, IsCourse, CoreTraced, RunsAt}
+use Rattle.dali_runs.specs.Images.{FitsBut, is_missed}
+use Rattle.dali_runs.proofs.Loads.{empty_rests}
+use Rattle.dali_runs.proofs.Courses.{load_runs_with, course_keeps, with_none}
 use Rattle.dali_crash.specs.Restarts.{HasRightBase, RestartsRight}
 use Rattle.dali_crash.specs.Fitting.{FitsWhole, recover_from}
 use Rattle.dali_crash.specs.Checkpoints.{Head, StoreStep, Does, Copies, WritesHead, Turns, CopyFails, HeadFails, TurnFails, target, head_with, synced_with, copies_after, IsTurnedFrom, IsOverwritten, MayTurn, MayWrite, with_fault, IsPointCourse, Point, is_of_checkpoint, moment_of, Came, Inside, IsPointStep, Traced}
@@ -39,7 +39,7 @@ use Rattle.dali_crash.proofs.StoreRuns.{store_course_keeps}
 use Rattle.dali_crash.proofs.StoreStarts.{all_dirty, store_base, recovers}
 use Rattle.dali_crash.proofs.Unpoked.{none_loaded, NoneFails, none_escapes, deletes_nobody, store_course_unpoked, store_course_clean, NonePoked, course_unpoked, course_clean}
 use Rattle.dali_crash.specs.Traces.{MayRun, FewGates, EveryCoreTraceIsRight, TraceGoesOn, Start, IsRestingImage, FreshRests, CrashRests, StartsAt, start_point, bases_of, EveryTraceIsRight, EveryMomentIsRight, FlushedTraces, AcknowledgedTraces, UnpokedTraceIsRight, StartRuns, UnpokedCoreTraceIsRight, core_start, BareStartRuns}
-use Rattle.dali_system.proofs.Touching.{trace_course}
+use Rattle.dali_runs.proofs.Touching.{trace_course}
 use Rattle.std.specs.List.{list_any}
 use Rattle.std.proofs.lemmas.Bool.{or_parts}
 use Rattle.dali_lists.proofs.Lists.{get_within}

@@ -14,11 +14,11 @@ use Rattle.dali_record.specs.Spelling.{record_length}
 use Rattle.dali_record.specs.Settled.{words_in, redo_all, settled_before}
 use Rattle.dali_record.specs.Files.{Files, row_of, next_after, table_before}
 use Rattle.dali_record.proofs.Batches.{number_is_length, clean_grows}
-use Rattle.dali_system.specs.State.{VaultState}
-use Rattle.dali_system.specs.Run.{Bases, log_in}
-use Rattle.dali_system.specs.Images.{FitsBut}
-use Rattle.dali_system.proofs.Redone.{copied_then}
-use Rattle.dali_system.proofs.LastEpochs.{is_behind, epoch_of}
+use Rattle.dali_runs.specs.State.{VaultState}
+use Rattle.dali_runs.specs.Run.{Bases, log_in}
+use Rattle.dali_runs.specs.Images.{FitsBut}
+use Rattle.dali_runs.proofs.Redone.{copied_then}
+use Rattle.dali_runs.proofs.LastEpochs.{is_behind, epoch_of}
 use Rattle.dali_crash.specs.CrashLogs.{cut_to}
 use Rattle.dali_crash.specs.Checkpoints.{Head, turned}
 use Rattle.dali_crash.specs.StoreRuns.{IsSettledAt, IsKept}

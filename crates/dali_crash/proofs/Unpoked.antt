@@ -15,22 +15,22 @@ use Rattle.dali_region.specs.declared.Side.{Side}
 use Rattle.dali_region.specs.declared.Side.TheVariants.{A, B}
 use Rattle.dali_region.specs.State.{RegionState, loaded, touched, taken_back, checked, dead}
 use Rattle.dali_region.specs.Answers.{cleaned}
-use Rattle.dali_headline.proofs.Undamaged.{undamaged_deleted}
-use Rattle.dali_system.specs.State.{CoreState, stable}
-use Rattle.dali_system.specs.Run.{Bases, log_in, RunsOn, IsPrefix, no_image}
-use Rattle.dali_system.specs.Crashes.{NoneEscapes}
-use Rattle.dali_system.specs.Regions.{RegionStep, Latch, NoteReads, Update, TakeBack, Poke, Check, Die, Clean, region_after}
-use Rattle.dali_system.specs.Audits.{MayEndAudit}
-use Rattle.dali_system.specs.Courses.{Step, Begins, Operates, TakesBack, Frees, Answers, Commits, Ends, AuditBegins, AuditEnds, Locks, Refuses, OnRegion, Passes, Dies, Claims, GivesBack, Recovers, Stops, Checkpoints, Takes, Flushes, Faults, ReadFails, Adds, Moment, IsStepAt, IsCourse, RunsAt}
-use Rattle.dali_system.proofs.Deaths.{region_with, dead_at}
-use Rattle.dali_system.proofs.AuditEnds.{may_end_audit}
-use Rattle.dali_system.proofs.OneMore.{is_inside, last_epoch-push}
+use Rattle.dali_history.proofs.HeadlineLemmas.Undamaged.{undamaged_deleted}
+use Rattle.dali_runs.specs.State.{CoreState, stable}
+use Rattle.dali_runs.specs.Run.{Bases, log_in, RunsOn, IsPrefix, no_image}
+use Rattle.dali_runs.specs.Crashes.{NoneEscapes}
+use Rattle.dali_runs.specs.Regions.{RegionStep, Latch, NoteReads, Update, TakeBack, Poke, Check, Die, Clean, region_after}
+use Rattle.dali_runs.specs.Audits.{MayEndAudit}
+use Rattle.dali_runs.specs.Courses.{Step, Begins, Operates, TakesBack, Frees, Answers, Commits, Ends, AuditBegins, AuditEnds, Locks, Refuses, OnRegion, Passes, Dies, Claims, GivesBack, Recovers, Stops, Checkpoints, Takes, Flushes, Faults, ReadFails, Adds, Moment, IsStepAt, IsCourse, RunsAt}
+use Rattle.dali_runs.proofs.Deaths.{region_with, dead_at}
+use Rattle.dali_runs.proofs.AuditEnds.{may_end_audit}
+use Rattle.dali_runs.proofs.OneMore.{is_inside, last_epoch-push}
 use Rattle.dali_crash.specs.CrashLogs.{cut_to, IsUnpoked}
 use Rattle.dali_crash.specs.Checkpoints.{Point, StoreStep, Does, Keeps, Copies, Skips, Turns, CopyFails, TurnFails, target, IsPointStep, IsPointCourse, moment_of}
 use Rattle.dali_crash.specs.Unpoked.{is_poke, pokes, store_pokes, DeletesNobody}
 use Rattle.dali_crash.proofs.CrashLogs.{cut_parts}
 use Rattle.dali_crash.proofs.Honest.{unpoked_escapes_none}
-use Rattle.dali_system.proofs.Courses.{step_keeps_none, runs_on}
+use Rattle.dali_runs.proofs.Courses.{step_keeps_none, runs_on}
 use Rattle.dali_crash.proofs.StoreRuns.{store_step_none}
 
 -- ---- no region is poked

@@ -10,9 +10,9 @@ use Rattle.dali_record.specs.Damage.{any_touch}
 use Rattle.dali_record.specs.Epochs.{last_epoch}
 use Rattle.dali_record.specs.Settled.{words_in, redo, redo_touch, redo_all}
 use Rattle.dali_record.proofs.Recovery.{words_redo-other}
-use Rattle.dali_system.specs.Run.{on_region, on_step, blocks_on}
-use Rattle.dali_system.proofs.LastEpochs.{is_behind}
-use Rattle.dali_system.proofs.OneMoreTouch.{fold_grows}
+use Rattle.dali_runs.specs.Run.{on_region, on_step, blocks_on}
+use Rattle.dali_runs.proofs.LastEpochs.{is_behind}
+use Rattle.dali_runs.proofs.OneMoreTouch.{fold_grows}
 
 none_here : (r : ℕ) (x : Record) (E : List Record) → blocks_on r (x ∷ E) ≡ 0 → (on_region r x ≡ false) × (blocks_on r E ≡ 0)
 none_here r x E h = by_test (on_region r x) refl h

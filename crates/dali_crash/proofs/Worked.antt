@@ -2,25 +2,25 @@
 use Rattle.std.proofs.Common.{◌≡◌, List, [], ◌∷◌, refl, ap, ℕ, ◌++◌, sym, arith, zero, suc, ◌<◌, Some, false, Option, ◌∙◌}
 use Rattle.std.specs.Prelude.{replicate, slice_get, is_some}
 use Rattle.dali_record.specs.declared.records.Record.TheVariants.{Format, Begin, Commit, Done, Forward}
-use Rattle.dali_system.specs.Worked.{small, first_log, first_vault, start, first_files, formatted_files}
-use Rattle.dali_system.proofs.Worked.{logs_by, alive_by, first_store}
+use Rattle.dali_runs.specs.Worked.{small, first_log, first_vault, start, first_files, formatted_files}
+use Rattle.dali_runs.proofs.Worked.{logs_by, alive_by, first_store}
 use Rattle.dali_crash.specs.Worked.{look, steps, WorkedRun}
 use Rattle.dali_record.specs.declared.records.Call.TheVariants.{Get}
 use Rattle.dali_record.specs.declared.records.Answer.TheVariants.{Missing}
 use Rattle.dali_record.specs.Files.{Files}
 use Rattle.dali_region.specs.State.{RegionState, loaded, latched, with_reads, touched}
 use Rattle.dali_locks.specs.declared.mode.Mode.TheVariants.{Shared}
-use Rattle.dali_system.specs.Run.{log_in, blocks_on}
-use Rattle.dali_system.specs.Steps.{begun, commit_logged, op_logged, done_logged, granted, taken}
-use Rattle.dali_system.specs.Keeps.{with_system, with_region, with_touched}
-use Rattle.dali_system.specs.Regions.{Latch, NoteReads}
-use Rattle.dali_system.specs.Flushes.{with_vault, longer, frame_of}
-use Rattle.dali_system.specs.Courses.{Begins, Operates, Answers, Commits, Locks, OnRegion, Takes, Flushes, Moment, IsStepAt, CameBy, CoreTraced}
-use Rattle.dali_system.proofs.Loads.{no_lock}
+use Rattle.dali_runs.specs.Run.{log_in, blocks_on}
+use Rattle.dali_runs.specs.Steps.{begun, commit_logged, op_logged, done_logged, granted, taken}
+use Rattle.dali_runs.specs.Keeps.{with_system, with_region, with_touched}
+use Rattle.dali_runs.specs.Regions.{Latch, NoteReads}
+use Rattle.dali_runs.specs.Flushes.{with_vault, longer, frame_of}
+use Rattle.dali_runs.specs.Courses.{Begins, Operates, Answers, Commits, Locks, OnRegion, Takes, Flushes, Moment, IsStepAt, CameBy, CoreTraced}
+use Rattle.dali_runs.proofs.Loads.{no_lock}
 use Rattle.dali_words.specs.Words.{AreWords}
 use Rattle.dali_record.specs.Spelling.{IsBlock}
 use Rattle.dali_record.specs.declared.operations.Op.TheVariants.{Look}
-use Rattle.dali_index.specs.Entries.{entries}
+use Rattle.dali_access.specs.Index.Entries.{entries}
 use Rattle.dali_record.proofs.Made.{made_is_block}
 use Rattle.dali_record.specs.Legal.{passes, rules_start}
 use Rattle.dali_geometry.specs.Places.{formatted_image}
@@ -29,11 +29,11 @@ use Rattle.dali_crash.proofs.Courses.{format_is_history}
 use Rattle.dali_crash.specs.Restarts.{RestartsRight}
 use Rattle.dali_lists.proofs.Options.{some_same}
 use Rattle.dali_att.specs.Table.{fresh_row}
-use Rattle.dali_system.proofs.Tables.{added}
-use Rattle.dali_system.proofs.RowStates.{begun_state, op_state}
+use Rattle.dali_runs.proofs.Tables.{added}
+use Rattle.dali_runs.proofs.RowStates.{begun_state, op_state}
 use Rattle.dali_att.specs.declared.state.State.TheVariants.{Live}
-use Rattle.dali_system.specs.State.{TxnRow, state_of}
-use Rattle.dali_system.proofs.Damage.{shared_covers}
+use Rattle.dali_runs.specs.State.{TxnRow, state_of}
+use Rattle.dali_runs.proofs.Damage.{shared_covers}
 use Rattle.dali_crash.proofs.Traces.{every_core_trace_is_right}
 
 -- ---- the moments

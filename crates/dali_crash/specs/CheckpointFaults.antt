@@ -12,7 +12,7 @@
 --                              that was current before, and the next one
 use Rattle.std.specs.Prelude.{◌≡◌, ℕ, true, false, List, [], ◌∷◌, ◌++◌, take}
 use Rattle.dali_record.specs.Files.{Files}
-use Rattle.dali_system.specs.Worked.{first_log, first_files}
+use Rattle.dali_runs.specs.Worked.{first_log, first_files}
 use Rattle.dali_crash.specs.Checkpoints.{StoreStep, Starts, Keeps, Copies, Skips, CopyFails, HeadFails, SyncFails, TurnFails, Finishes, Point, Traced}
 use Rattle.dali_crash.specs.StoreRuns.{CrashIsRightWith}
 use Rattle.dali_crash.specs.Checkpointed.{no_head, checkpoint_start, checkpoint_steps}

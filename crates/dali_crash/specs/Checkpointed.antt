@@ -11,8 +11,8 @@ use Rattle.dali_record.specs.declared.records.Record.{Record}
 use Rattle.dali_record.specs.declared.records.Record.TheVariants.{Format, Begin, Commit, Ended, AuditBegin, AuditClean}
 use Rattle.dali_record.specs.Legal.{passes, rules_start}
 use Rattle.dali_record.specs.Files.{Files}
-use Rattle.dali_system.specs.Courses.{Begins, Commits, Ends, AuditBegins, AuditEnds, Passes, Takes, Flushes}
-use Rattle.dali_system.specs.Worked.{small, first_log, first_vault, first_files}
+use Rattle.dali_runs.specs.Courses.{Begins, Commits, Ends, AuditBegins, AuditEnds, Passes, Takes, Flushes}
+use Rattle.dali_runs.specs.Worked.{small, first_log, first_vault, first_files}
 use Rattle.dali_crash.specs.Checkpoints.{Head, StoreStep, Does, Starts, Keeps, Copies, WritesHead, Syncs, Turns, Finishes, Point, Traced}
 use Rattle.dali_crash.specs.StoreRuns.{CrashIsRightWith}
 use Rattle.dali_crash.specs.Traces.{Start, StartsAt, start_point}

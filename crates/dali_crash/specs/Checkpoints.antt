@@ -33,15 +33,15 @@ use Rattle.dali_region.specs.declared.Side.{Side}
 use Rattle.dali_region.specs.declared.Side.TheVariants.{A, B}
 use Rattle.dali_region.specs.State.{RegionState}
 use Rattle.dali_region.specs.Answers.{is_dirty, cleaned}
-use Rattle.dali_system.specs.State.{CoreState, stable}
-use Rattle.dali_system.specs.Run.{HasRisen, blocks_on}
-use Rattle.dali_system.specs.Passes.{Audits}
-use Rattle.dali_system.specs.Keeps.{with_system, with_region}
-use Rattle.dali_system.specs.Steps.{in_checkpoint}
-use Rattle.dali_system.specs.Flushes.{with_vault, faulted}
-use Rattle.dali_system.specs.Courses.{Step, OnRegion, Passes, Checkpoints, Moment, CameBy, IsStepAt}
-use Rattle.dali_system.specs.Images.{Told}
-use Rattle.dali_system.specs.ImageSteps.{clears, same_side, told_with}
+use Rattle.dali_runs.specs.State.{CoreState, stable}
+use Rattle.dali_runs.specs.Run.{HasRisen, blocks_on}
+use Rattle.dali_runs.specs.Passes.{Audits}
+use Rattle.dali_runs.specs.Keeps.{with_system, with_region}
+use Rattle.dali_runs.specs.Steps.{in_checkpoint}
+use Rattle.dali_runs.specs.Flushes.{with_vault, faulted}
+use Rattle.dali_runs.specs.Courses.{Step, OnRegion, Passes, Checkpoints, Moment, CameBy, IsStepAt}
+use Rattle.dali_runs.specs.Images.{Told}
+use Rattle.dali_runs.specs.ImageSteps.{clears, same_side, told_with}
 
 pub record Head : Type 0 where
   pub number : ℕ

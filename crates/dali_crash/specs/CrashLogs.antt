@@ -14,9 +14,9 @@ use Rattle.dali_record.specs.Legal.{IsLegalFor}
 use Rattle.dali_history.specs.Recovered.{IsHonestIn}
 use Rattle.dali_history.specs.History.{AreSpelled}
 use Rattle.dali_region.specs.State.{RegionState}
-use Rattle.dali_system.specs.State.{CoreState}
-use Rattle.dali_system.specs.Run.{Bases, base_at, RunsOn}
-use Rattle.dali_system.specs.Crashes.{NoneEscapes}
+use Rattle.dali_runs.specs.State.{CoreState}
+use Rattle.dali_runs.specs.Run.{Bases, base_at, RunsOn}
+use Rattle.dali_runs.specs.Crashes.{NoneEscapes}
 
 abbrev pub cut_to : ℕ → Epoch → Epoch
 cut_to m e = record { first = e.first; records = take m e.records }

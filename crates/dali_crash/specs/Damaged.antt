@@ -7,10 +7,10 @@ use Rattle.dali_record.specs.Files.{Files}
 use Rattle.dali_record.specs.Settled.{IsSoundAt}
 use Rattle.dali_history.specs.Serial.{survivors}
 use Rattle.dali_history.specs.Acknowledged.{IsDeletedByChain}
-use Rattle.dali_system.specs.Run.{log_in}
-use Rattle.dali_system.specs.Crashes.{NoneEscapes, IsAcknowledged}
-use Rattle.dali_system.specs.Courses.{Moment, CoreTraced}
-use Rattle.dali_system.specs.Worked.{small, first_log, start, damage, first_files}
+use Rattle.dali_runs.specs.Run.{log_in}
+use Rattle.dali_runs.specs.Crashes.{NoneEscapes, IsAcknowledged}
+use Rattle.dali_runs.specs.Courses.{Moment, CoreTraced}
+use Rattle.dali_runs.specs.Worked.{small, first_log, start, damage, first_files}
 use Rattle.dali_crash.specs.Restarts.{RestartsRight}
 
 pub record DamagedRun : Type 0 where

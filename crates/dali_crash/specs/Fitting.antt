@@ -14,8 +14,8 @@ use Rattle.dali_record.specs.Damage.{damage_of, marks, kept_from}
 use Rattle.dali_record.specs.Settled.{redo_all}
 use Rattle.dali_record.specs.Files.{Files, Fits}
 use Rattle.dali_history.specs.Recovered.{roll_back, freed, losers, undos_left, recover}
-use Rattle.dali_system.specs.Run.{Bases}
-use Rattle.dali_system.specs.Images.{FitsBut}
+use Rattle.dali_runs.specs.Run.{Bases}
+use Rattle.dali_runs.specs.Images.{FitsBut}
 
 pub record FitsWhole (s : Sizes) (base : List (List ℕ)) (K : List Record) (F : Files) (e : Epoch) : Type 0 where
   pub fits : Fits s base K F e

@@ -5,11 +5,11 @@
 --     CourseGrows              so it is along each list of steps
 use Rattle.std.specs.Prelude.{◌≡◌, ℕ, ◌≤◌, true, List, ◌++◌, take}
 use Rattle.dali_record.specs.declared.records.Record.{Record}
-use Rattle.dali_system.specs.State.{CoreState, stable}
-use Rattle.dali_system.specs.Run.{Bases, no_image}
-use Rattle.dali_system.specs.Crashes.{IsAcknowledged}
+use Rattle.dali_runs.specs.State.{CoreState, stable}
+use Rattle.dali_runs.specs.Run.{Bases, no_image}
+use Rattle.dali_runs.specs.Crashes.{IsAcknowledged}
 use Rattle.dali_crash.specs.Checkpoints.{StoreStep, IsPointCourse, Point, moment_of}
-use Rattle.dali_system.specs.Courses.{RunsAt}
+use Rattle.dali_runs.specs.Courses.{RunsAt}
 
 pub record HasGrown (before : List Record) (c d : CoreState) : Type 0 where
   pub current : c.vault.current ≤ d.vault.current

@@ -22,10 +22,10 @@ use Rattle.dali_record.specs.Files.{Files}
 use Rattle.dali_locks.specs.declared.mode.Mode.TheVariants.{Exclusive}
 use Rattle.dali_history.specs.Serial.{survivors}
 use Rattle.dali_history.specs.History.{IsHistory}
-use Rattle.dali_system.specs.State.{VaultState}
-use Rattle.dali_system.specs.Run.{log_in}
-use Rattle.dali_system.specs.Courses.{Step, Begins, Operates, Answers, Commits, Locks, Takes, Flushes}
-use Rattle.dali_system.specs.Worked.{small, touching, stored, first_log}
+use Rattle.dali_runs.specs.State.{VaultState}
+use Rattle.dali_runs.specs.Run.{log_in}
+use Rattle.dali_runs.specs.Courses.{Step, Begins, Operates, Answers, Commits, Locks, Takes, Flushes}
+use Rattle.dali_runs.specs.Worked.{small, touching, stored, first_log}
 use Rattle.dali_crash.specs.Fitting.{recover_from}
 use Rattle.dali_crash.specs.Checkpoints.{Does, Point, Traced}
 use Rattle.dali_crash.specs.StoreRuns.{CrashIsRightWith}

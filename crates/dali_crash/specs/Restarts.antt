@@ -22,11 +22,11 @@ use Rattle.dali_history.specs.Recovered.{base_of, recovered, AreHonest}
 use Rattle.dali_history.specs.History.{IsHistory}
 use Rattle.dali_history.specs.Acknowledged.{IsDeletedByChain}
 use Rattle.dali_history.specs.Promise.{RestartIsRight}
-use Rattle.dali_system.specs.State.{CoreState, stable, log_after}
-use Rattle.dali_system.specs.Run.{Bases, base_at, log_in, RunsOn, IsRun, only}
-use Rattle.dali_system.specs.Crashes.{NoneEscapes, IsAcknowledged}
+use Rattle.dali_runs.specs.State.{CoreState, stable, log_after}
+use Rattle.dali_runs.specs.Run.{Bases, base_at, log_in, RunsOn, IsRun, only}
+use Rattle.dali_runs.specs.Crashes.{NoneEscapes, IsAcknowledged}
 use Rattle.dali_record.specs.Spelling.{CanBeSpelled}
-use Rattle.dali_system.specs.Courses.{Step, Moment, IsCourse}
+use Rattle.dali_runs.specs.Courses.{Step, Moment, IsCourse}
 
 pub record HasRightBase (bases : Bases) (s : Sizes) (L : List Record) : Type 0 where
   pub base : base_at bases L ≡ base_of s L

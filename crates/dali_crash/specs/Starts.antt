@@ -20,8 +20,8 @@ use Rattle.dali_record.specs.Files.{Files, batch_length, next_after}
 use Rattle.dali_record.specs.Locks.{IsLockLegal}
 use Rattle.dali_history.specs.Recovered.{recovered, IsHonest}
 use Rattle.dali_history.specs.History.{AreSpelled, IsHistory}
-use Rattle.dali_system.specs.Run.{Bases, base_at, log_in}
-use Rattle.dali_system.specs.Images.{FitsBut}
+use Rattle.dali_runs.specs.Run.{Bases, base_at, log_in}
+use Rattle.dali_runs.specs.Images.{FitsBut}
 
 -- the log has the Format alone, no gate of the anchor is open, and the formatted regions count as the image
 pub record IsFormatted (s : Sizes) (F : Files) : Type 0 where

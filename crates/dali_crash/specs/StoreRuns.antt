@@ -35,13 +35,13 @@ use Rattle.dali_region.specs.State.{RegionState}
 use Rattle.dali_region.specs.Answers.{is_dirty}
 use Rattle.dali_history.specs.Recovered.{base_of, recovered}
 use Rattle.dali_history.specs.History.{IsHistory}
-use Rattle.dali_system.specs.State.{VaultState, CoreState, stable}
-use Rattle.dali_system.specs.Run.{Bases, log_in, only, no_image}
-use Rattle.dali_system.specs.Loads.{new_core}
-use Rattle.dali_system.specs.Crashes.{NoneEscapes}
-use Rattle.dali_system.specs.Passes.{no_audits}
-use Rattle.dali_system.specs.Courses.{RunsAt}
-use Rattle.dali_system.specs.Images.{Told, FitsBut, is_missed, ImageRun}
+use Rattle.dali_runs.specs.State.{VaultState, CoreState, stable}
+use Rattle.dali_runs.specs.Run.{Bases, log_in, only, no_image}
+use Rattle.dali_runs.specs.Loads.{new_core}
+use Rattle.dali_runs.specs.Crashes.{NoneEscapes}
+use Rattle.dali_runs.specs.Passes.{no_audits}
+use Rattle.dali_runs.specs.Courses.{RunsAt}
+use Rattle.dali_runs.specs.Images.{Told, FitsBut, is_missed, ImageRun}
 use Rattle.dali_crash.specs.Restarts.{RestartsRight}
 use Rattle.dali_crash.specs.Fitting.{FitsWhole, recover_from}
 use Rattle.dali_crash.specs.Checkpoints.{Head, Copy, StoreStep, Starts, Syncs, Turns, Finishes, Came, IsPointCourse, IsPointStep, Point, Traced, moment_of}

@@ -29,13 +29,13 @@ use Rattle.dali_record.specs.Files.{Files, batch_length, Fits}
 use Rattle.dali_region.specs.declared.Side.{Side}
 use Rattle.dali_history.specs.Recovered.{base_of, recovered}
 use Rattle.dali_history.specs.History.{IsHistory}
-use Rattle.dali_system.specs.State.{VaultState, CoreState, stable}
-use Rattle.dali_system.specs.Run.{Bases, log_in, only, VaultRun, no_image}
-use Rattle.dali_system.specs.Loads.{new_core}
-use Rattle.dali_system.specs.Crashes.{NoneEscapes, IsAcknowledged}
-use Rattle.dali_system.specs.Passes.{no_audits}
-use Rattle.dali_system.specs.Courses.{Step, CoreTraced, Moment}
-use Rattle.dali_system.specs.Images.{Told}
+use Rattle.dali_runs.specs.State.{VaultState, CoreState, stable}
+use Rattle.dali_runs.specs.Run.{Bases, log_in, only, VaultRun, no_image}
+use Rattle.dali_runs.specs.Loads.{new_core}
+use Rattle.dali_runs.specs.Crashes.{NoneEscapes, IsAcknowledged}
+use Rattle.dali_runs.specs.Passes.{no_audits}
+use Rattle.dali_runs.specs.Courses.{Step, CoreTraced, Moment}
+use Rattle.dali_runs.specs.Images.{Told}
 use Rattle.dali_crash.specs.Restarts.{RestartsRight}
 use Rattle.dali_crash.specs.Fitting.{FitsWhole}
 use Rattle.dali_crash.specs.Starts.{IsFresh, IsLawful}

@@ -5,9 +5,9 @@ use Rattle.std.specs.Prelude.{◌≡◌, Bool, true, false, []}
 use Rattle.dali_record.specs.Epochs.{last_epoch}
 use Rattle.dali_record.specs.Damage.{deleted_list}
 use Rattle.dali_record.specs.Files.{Files}
-use Rattle.dali_system.specs.Run.{log_in}
-use Rattle.dali_system.specs.Regions.{RegionStep, Poke}
-use Rattle.dali_system.specs.Courses.{Step, OnRegion}
+use Rattle.dali_runs.specs.Run.{log_in}
+use Rattle.dali_runs.specs.Regions.{RegionStep, Poke}
+use Rattle.dali_runs.specs.Courses.{Step, OnRegion}
 use Rattle.dali_crash.specs.Checkpoints.{StoreStep, Does}
 
 abbrev pub is_poke : RegionStep → Bool

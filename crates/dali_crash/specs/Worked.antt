@@ -13,10 +13,10 @@ use Rattle.dali_record.specs.declared.records.Record.TheVariants.{Format, Begin,
 use Rattle.dali_record.specs.Blocks.{made}
 use Rattle.dali_record.specs.Files.{Files}
 use Rattle.dali_locks.specs.declared.mode.Mode.TheVariants.{Shared}
-use Rattle.dali_system.specs.Regions.{Latch, NoteReads}
-use Rattle.dali_system.specs.Crashes.{IsAcknowledged}
-use Rattle.dali_system.specs.Courses.{Step, Begins, Operates, Answers, Commits, Locks, OnRegion, Takes, Flushes, Moment, CoreTraced}
-use Rattle.dali_system.specs.Worked.{small, first_log, start, first_files}
+use Rattle.dali_runs.specs.Regions.{Latch, NoteReads}
+use Rattle.dali_runs.specs.Crashes.{IsAcknowledged}
+use Rattle.dali_runs.specs.Courses.{Step, Begins, Operates, Answers, Commits, Locks, OnRegion, Takes, Flushes, Moment, CoreTraced}
+use Rattle.dali_runs.specs.Worked.{small, first_log, start, first_files}
 use Rattle.dali_crash.specs.Restarts.{RestartsRight}
 
 -- the look finds nothing

@@ -1,7 +1,7 @@
 -- What an error of the reader is told as.
 use Rattle.std.proofs.Common.{◌≡◌, ℕ, ap}
-use Rattle.dali_batch.specs.declared.error.LogError.{LogError}
-use Rattle.dali_batch.specs.declared.error.LogError.TheVariants as logs
+use Rattle.dali_log.specs.declared.error.LogError.{LogError}
+use Rattle.dali_log.specs.declared.error.LogError.TheVariants as logs
 use Rattle.dali_dump.specs.declared.error.DumpError.TheVariants.{BadLog}
 use Rattle.dali_dump.specs.Errors.{dump_error}
 

@@ -6,12 +6,13 @@ use Rattle.dali_record.specs.declared.records.Record.{Record}
 use Rattle.dali_record.specs.declared.records.Record.TheVariants.{Format}
 use Rattle.dali_store.specs.Store.{Files}
 use Rattle.dali_store.specs.Calls.{PassesFewer}
-use Rattle.dali_batch.specs.declared.reader.Placed.{Placed}
-use Rattle.dali_batch.specs.Log.{BadAt}
-use Rattle.dali_batch.specs.Stream.{Reading, IsReadFrom, IsReadTo, GoesOn, EndsAt, IsBadFrom, IsWhole}
-use Rattle.dali_batch.specs.Reads.{OnlyReads}
-use Rattle.dali_batch.proofs.Streaming.{read_on, read_all, read_bad}
-use Rattle.dali_batch.proofs.Readings.{reads_then}
+use Rattle.dali_store.specs.declared.store.Store.{Ghosts}
+use Rattle.dali_log.specs.declared.reader.Placed.{Placed}
+use Rattle.dali_log.specs.Log.{BadAt}
+use Rattle.dali_log.specs.Stream.{Reading, IsReadFrom, IsReadTo, GoesOn, EndsAt, IsBadFrom, IsWhole}
+use Rattle.dali_log.specs.Reads.{OnlyReads}
+use Rattle.dali_log.proofs.Streaming.{read_on, read_all, read_bad}
+use Rattle.dali_log.proofs.Readings.{reads_then}
 use Rattle.dali_dump.specs.Lines.{record_line, record_lines, IsDump}
 
 pub record IsDumpedTo (log : List ℕ) (r : Reading) (n : ℕ) (text : List ℕ) : Type 0 where
@@ -49,24 +50,24 @@ dumped_on log r s given n old new goes so_far added =
     }
 
 -- ---- over a store
-module _ {V : Type 0} (told : V → Option Files) (moment : V → ℕ) (left_since : V → ℕ → Files → Type 0) (may_leave : V → Files → Type 0) (lets_pass : V → Option ℕ) (faults : V → ℕ) where
+module _ {V : Type 0} (means : Ghosts V) where
   pub record IsDumping (old new : V) (r : Reading) (n : ℕ) (text : List ℕ) : Type 0 where
     pub whole : IsWhole r
     pub few : n ≤ r.at
-    pub dumped : IfSome (told old) (λ fs. IsDumpedTo fs.log r n text)
-    pub reads : OnlyReads told moment left_since may_leave old new
-    pub passes : PassesFewer (lets_pass old) (lets_pass new)
-    pub kept : faults new ≡ faults old
+    pub dumped : IfSome (means.told old) (λ fs. IsDumpedTo fs.log r n text)
+    pub reads : OnlyReads means.told means.moment means.left_since means.may_leave old new
+    pub passes : PassesFewer (means.lets_pass old) (means.lets_pass new)
+    pub kept : means.faults new ≡ means.faults old
 
   -- the next record
   pub dumps_next : (old mid new : V) (read : Option Placed) (given : Placed) (r s : Reading) (n : ℕ) (text longer : List ℕ) → IsDumping old mid r n text
-      → IfSome read (λ x. IfSome (told mid) (λ fs. GoesOn fs.log r x s)) → read ≡ Some given → longer ≡ text ++ record_line n given.entry
-      → IsWhole s → n + 1 ≤ s.at → OnlyReads told moment left_since may_leave mid new → PassesFewer (lets_pass old) (lets_pass new) → faults new ≡ faults old → IsDumping old new s (n + 1) longer
+      → IfSome read (λ x. IfSome (means.told mid) (λ fs. GoesOn fs.log r x s)) → read ≡ Some given → longer ≡ text ++ record_line n given.entry
+      → IsWhole s → n + 1 ≤ s.at → OnlyReads means.told means.moment means.left_since means.may_leave mid new → PassesFewer (means.lets_pass old) (means.lets_pass new) → means.faults new ≡ means.faults old → IsDumping old new s (n + 1) longer
   dumps_next old mid new read given r s n text longer so_far goes is added whole few reads passes kept = record {
     whole = whole;
     few = few;
-    dumped = by_told (told old) (told mid) so_far.dumped so_far.reads.same goes;
-    reads = reads_then told moment left_since may_leave old mid new so_far.reads reads;
+    dumped = by_told (means.told old) (means.told mid) so_far.dumped so_far.reads.same goes;
+    reads = reads_then means.told means.moment means.left_since means.may_leave old mid new so_far.reads reads;
     passes = passes;
     kept = kept;
   }

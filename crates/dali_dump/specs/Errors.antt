@@ -1,7 +1,7 @@
 -- How an error of the log is told.
 --     dump_error e         that of reading it, as one of the dump
-use Rattle.dali_batch.specs.declared.error.LogError.{LogError}
-use Rattle.dali_batch.specs.declared.error.LogError.TheVariants as reading
+use Rattle.dali_log.specs.declared.error.LogError.{LogError}
+use Rattle.dali_log.specs.declared.error.LogError.TheVariants as reading
 use Rattle.dali_dump.specs.declared.error.DumpError.{DumpError}
 use Rattle.dali_dump.specs.declared.error.DumpError.TheVariants.{Fault, Unformatted, BadLog, OutOfMemory}
 

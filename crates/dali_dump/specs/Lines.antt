@@ -17,7 +17,7 @@ use Rattle.dali_record.specs.declared.records.Call.{Call}
 use Rattle.dali_record.specs.declared.records.Call.TheVariants.{Insert, Update, Delete, Get}
 use Rattle.dali_record.specs.declared.records.Record.{Record}
 use Rattle.dali_record.specs.declared.records.Record.TheVariants.{Format, Begin, Forward, Done, Commit, Ended, Solo, AuditBegin, AuditClean, AuditFail, Restarted, Back}
-use Rattle.dali_batch.specs.Log.{LogOf, records_in}
+use Rattle.dali_log.specs.Log.{LogOf, records_in}
 use Rattle.dali_script.specs.Names.{text_of as name_text}
 use Rattle.dali_report.specs.Said.{call_name, answer_text}
 use Rattle.dali_report.specs.Texts.{hex_text, list_text}

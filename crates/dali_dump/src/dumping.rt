@@ -2,14 +2,14 @@
 ghost use Rattle.std.specs.Prelude.{◌≡◌, ◌≤◌, ℕ, IfOk, IfErr, IsErrOf, IfSome};
 ghost use Rattle.dali_store.specs.Calls.{PassesFewer};
 ghost use Rattle.dali_store.specs.Faults.{Rose};
-ghost use Rattle.dali_batch.specs.Batch.{IsUnformatted};
-ghost use Rattle.dali_batch.specs.Log.{BadAt};
-ghost use Rattle.dali_batch.specs.Reads.{OnlyReads};
+ghost use Rattle.dali_log.specs.Batch.{IsUnformatted};
+ghost use Rattle.dali_log.specs.Log.{BadAt};
+ghost use Rattle.dali_log.specs.Reads.{OnlyReads};
 ghost use Rattle.dali_dump.specs.Lines.{IsDump};
 
 use crate::error::DumpError;
 use crate::lines::put_line;
-use dali_batch::LogReader;
+use dali_log::LogReader;
 use dali_record::Record;
 use dali_store::Store;
 use std::alloc::Global;

@@ -3,7 +3,7 @@ ghost use Rattle.std.specs.Prelude.{◌≡◌};
 ghost use Rattle.dali_dump.specs.Errors.{dump_error};
 ghost use Rattle.dali_dump.specs.declared.error.DumpError.TheVariants.{OutOfMemory as Memory};
 
-use dali_batch::LogError;
+use dali_log::LogError;
 use std::alloc::AllocError;
 use thiserror::Error;
 

@@ -5,11 +5,11 @@ ghost use Rattle.dali_script.specs.Names.{text_of as name_text};
 ghost use Rattle.dali_report.specs.Said.{call_name};
 ghost use Rattle.dali_dump.specs.Lines.{op_name, key_of, block_text, done_text, record_text, record_line};
 
-use dali_clients::Line;
 use dali_record::{Answer, Block, Call, Op, Record};
 use dali_report::{
     put_text, put_with_hex, put_with_number, put_with_numbers, put_with_regions, said_line,
 };
+use dali_transcripts::clients::Line;
 use std::alloc::AllocError;
 
 fn name_of(op: &Op) -> &'static str

@@ -14,9 +14,9 @@ use Rattle.dali_record.specs.Damage.{has, deleted_list, damage_of, marks, has_co
 use Rattle.dali_record.specs.Legal.{Rules, rules_state, rules_next, rules_step}
 use Rattle.dali_record.proofs.Ends.{by_push}
 use Rattle.dali_record.proofs.Pushes.{rules_state_push}
-use Rattle.dali_counts.specs.Counts.{next_with}
-use Rattle.dali_counts.proofs.Tallies.{tells_step}
-use Rattle.dali_counts.proofs.Begins.{begin_number}
+use Rattle.dali_runs.specs.Counts.Counts.{next_with}
+use Rattle.dali_runs.proofs.CountsLemmas.Tallies.{tells_step}
+use Rattle.dali_runs.proofs.CountsLemmas.Begins.{begin_number}
 use Rattle.dali_history.proofs.ByEpochs.{in_epochs}
 use Rattle.dali_history.proofs.Rising.{Up, up_from, same_up, all_filter}
 

@@ -3,17 +3,17 @@ use Rattle.std.proofs.Common.{◌≡◌, ℕ, false, List, [], ◌∷◌, refl, 
 use Rattle.std.specs.Prelude.{IsPermutation}
 use Rattle.std.specs.List.{list_any}
 use Rattle.std.proofs.lemmas.List.Sorted.{IsPermutation-refl}
-use Rattle.dali_heap.specs.Cells.{cells}
-use Rattle.dali_index.specs.Entries.{entries}
+use Rattle.dali_access.specs.Heap.Cells.{cells}
+use Rattle.dali_access.specs.Index.Entries.{entries}
 use Rattle.dali_record.specs.declared.operations.Undo.TheVariants.{FreeCell, ReviveCell}
 use Rattle.dali_record.specs.declared.records.Record.TheVariants.{Format}
 use Rattle.dali_record.specs.Epochs.{last_epoch}
 use Rattle.dali_record.specs.Legal.{passes, rules_start}
 use Rattle.dali_history.specs.Recovered.{base_of}
-use Rattle.dali_kept.specs.Kept.{uncommitted}
-use Rattle.dali_undos.specs.AsLeft.{FindAsLeft}
-use Rattle.dali_system.specs.Courses.{Step, Moment, IsCourse}
-use Rattle.dali_system.specs.Worked.{small, first_log, first_vault, look as found, kill_cell}
+use Rattle.dali_history.specs.Kept.Kept.{uncommitted}
+use Rattle.dali_history.specs.Undone.AsLeft.{FindAsLeft}
+use Rattle.dali_runs.specs.Courses.{Step, Moment, IsCourse}
+use Rattle.dali_runs.specs.Worked.{small, first_log, first_vault, look as found, kill_cell}
 use Rattle.dali_crash.specs.Worked.{look}
 use Rattle.dali_crash.specs.Restarted.{put, add}
 use Rattle.dali_crash.specs.Unpoked.{pokes}
@@ -23,7 +23,7 @@ use Rattle.dali_during.specs.Gaps.{put_so_far, killed_so_far}
 use Rattle.dali_during.specs.UndosFind.{FindsInInsert, FindsInDelete, FindsBelow}
 use Rattle.dali_during.proofs.UnpokedCourses.{unpoked_courses}
 use Rattle.dali_during.proofs.Gaps.{first, cell_put, cell_killed, put_so_far_course, killed_so_far_course}
-use Rattle.dali_system.proofs.Worked.{bare_store}
+use Rattle.dali_runs.proofs.Worked.{bare_store}
 
 finds_at : (xs : List Step) (n : Moment) → list_any pokes xs ≡ false → IsCourse first xs n → (order : List ℕ) → IsPermutation order (uncommitted (last_epoch n.log).records) → FindAsLeft (base_of n.core.system.sizes n.log) (last_epoch n.log).records (image_of n.core) order
 finds_at xs n quiet course = (unpoked_courses first_log (passes rules_start (Format 1 1)) 1000000 first_vault (format_is_history small (refl, refl)) refl refl (omega arith) bare_store refl xs n quiet course).undos

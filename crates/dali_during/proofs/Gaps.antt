@@ -13,22 +13,22 @@ use Rattle.dali_words.specs.Words.{AreWords}
 use Rattle.dali_record.specs.Spelling.{IsBlock}
 use Rattle.dali_record.proofs.Made.{made_is_block}
 use Rattle.dali_words.specs.Values.{IsValue}
-use Rattle.dali_heap.specs.Cells.{cells}
-use Rattle.dali_index.specs.Entries.{entries}
+use Rattle.dali_access.specs.Heap.Cells.{cells}
+use Rattle.dali_access.specs.Index.Entries.{entries}
 use Rattle.dali_region.specs.State.{RegionState, loaded, touched}
 use Rattle.dali_locks.specs.declared.mode.Mode.TheVariants.{Exclusive}
 use Rattle.dali_att.specs.Table.{fresh_row}
-use Rattle.dali_system.specs.State.{TxnRow, SystemState, state_of}
+use Rattle.dali_runs.specs.State.{TxnRow, SystemState, state_of}
 use Rattle.dali_att.specs.declared.state.State.TheVariants.{Live}
-use Rattle.dali_system.proofs.RowStates.{begun_state, op_state}
-use Rattle.dali_system.specs.Steps.{begun, granted, op_logged, done_logged}
-use Rattle.dali_system.specs.Keeps.{with_system}
-use Rattle.dali_system.specs.Courses.{Step, Begins, Operates, Answers, Locks as Asks, Moment, IsStepAt, IsCourse}
-use Rattle.dali_system.specs.Worked.{small, start, opening, touching, index_words, heap_words, look as found, kill_cell}
-use Rattle.dali_system.proofs.Loads.{no_lock}
-use Rattle.dali_system.proofs.Tables.{added}
-use Rattle.dali_system.proofs.Touching.{join, with_one, after_all, touches}
-use Rattle.dali_system.proofs.Worked.{are_index, are_heap, exclusive_covers, logging, logs_by, alive_by}
+use Rattle.dali_runs.proofs.RowStates.{begun_state, op_state}
+use Rattle.dali_runs.specs.Steps.{begun, granted, op_logged, done_logged}
+use Rattle.dali_runs.specs.Keeps.{with_system}
+use Rattle.dali_runs.specs.Courses.{Step, Begins, Operates, Answers, Locks as Asks, Moment, IsStepAt, IsCourse}
+use Rattle.dali_runs.specs.Worked.{small, start, opening, touching, index_words, heap_words, look as found, kill_cell}
+use Rattle.dali_runs.proofs.Loads.{no_lock}
+use Rattle.dali_runs.proofs.Tables.{added}
+use Rattle.dali_runs.proofs.Touching.{join, with_one, after_all, touches}
+use Rattle.dali_runs.proofs.Worked.{are_index, are_heap, exclusive_covers, logging, logs_by, alive_by}
 use Rattle.dali_crash.specs.Worked.{look}
 use Rattle.dali_crash.specs.Restarted.{put, add, put_writes, add_writes}
 use Rattle.dali_during.specs.Gaps.{put_so_far, killed_so_far}

@@ -6,21 +6,21 @@ use Rattle.dali_record.specs.declared.records.Record.{Record}
 use Rattle.dali_record.specs.declared.records.Record.TheVariants.{Format, AuditBegin, AuditClean}
 use Rattle.dali_record.specs.Legal.{rules_state}
 use Rattle.dali_record.specs.Files.{Files}
-use Rattle.dali_heap.specs.Cells.{cells}
-use Rattle.dali_index.specs.Entries.{entries}
+use Rattle.dali_access.specs.Heap.Cells.{cells}
+use Rattle.dali_access.specs.Index.Entries.{entries}
 use Rattle.dali_region.specs.declared.Side.TheVariants.{A}
 use Rattle.dali_region.specs.State.{RegionState, checked}
 use Rattle.dali_region.specs.Answers.{cleaned}
-use Rattle.dali_system.specs.Steps.{audit_begun, audit_ended, taken, store_stopped}
-use Rattle.dali_system.specs.Keeps.{with_system, with_region}
-use Rattle.dali_system.specs.Audits.{IsAuditing}
-use Rattle.dali_system.specs.Passes.{audits_with, has_passed, has_found, IsVerdict}
-use Rattle.dali_system.specs.Flushes.{with_vault, longer, faulted, frame_of}
-use Rattle.dali_system.specs.Courses.{Step, AuditBegins, AuditEnds, Passes, Takes, Flushes, Faults, Stops, Moment, CoreTraced}
-use Rattle.dali_system.specs.ImageSteps.{told_with}
-use Rattle.dali_system.specs.Worked.{small, first_log, look as found, kill_cell, kill_entry, free_cell, free_entry, first_files, formatted_files}
-use Rattle.dali_system.proofs.Removal.{named_by}
-use Rattle.dali_system.proofs.Touching.{passing, quiet_trace}
+use Rattle.dali_runs.specs.Steps.{audit_begun, audit_ended, taken, store_stopped}
+use Rattle.dali_runs.specs.Keeps.{with_system, with_region}
+use Rattle.dali_runs.specs.Audits.{IsAuditing}
+use Rattle.dali_runs.specs.Passes.{audits_with, has_passed, has_found, IsVerdict}
+use Rattle.dali_runs.specs.Flushes.{with_vault, longer, faulted, frame_of}
+use Rattle.dali_runs.specs.Courses.{Step, AuditBegins, AuditEnds, Passes, Takes, Flushes, Faults, Stops, Moment, CoreTraced}
+use Rattle.dali_runs.specs.ImageSteps.{told_with}
+use Rattle.dali_runs.specs.Worked.{small, first_log, look as found, kill_cell, kill_entry, free_cell, free_entry, first_files, formatted_files}
+use Rattle.dali_runs.proofs.Removal.{named_by}
+use Rattle.dali_runs.proofs.Touching.{passing, quiet_trace}
 use Rattle.dali_crash.specs.Worked.{look}
 use Rattle.dali_crash.specs.Restarted.{put, add}
 use Rattle.dali_crash.specs.Checkpoints.{Head, Point, StoreStep, Does, Starts, Keeps, Copies, WritesHead, Syncs, Turns, Finishes, is_of_checkpoint, target, head_now, head_with, synced_with, copies_with, copies_after, MayTurn, IsPointStep, with_current, with_flag, turned, Came, IsTurnedFrom, Traced, moment_of}

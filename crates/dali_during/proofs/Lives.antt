@@ -7,8 +7,8 @@ use Rattle.dali_record.specs.Epochs.{Epoch, Cut, cut, last_epoch, recovered_epoc
 use Rattle.dali_record.specs.Damage.{rolled_list, deleted_list}
 use Rattle.dali_record.proofs.Pushes.{cut_push}
 use Rattle.dali_history.specs.History.{IsHistory}
-use Rattle.dali_headline.proofs.Undamaged.{all_survive}
-use Rattle.dali_system.specs.Run.{log_in}
+use Rattle.dali_history.proofs.HeadlineLemmas.Undamaged.{all_survive}
+use Rattle.dali_runs.specs.Run.{log_in}
 use Rattle.dali_crash.proofs.Courses.{format_is_history}
 use Rattle.dali_crash.proofs.Starts.{restart_starts, lawful}
 use Rattle.dali_during.specs.During.{NoneFailed}

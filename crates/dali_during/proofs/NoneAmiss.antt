@@ -24,25 +24,25 @@ use Rattle.dali_record.specs.Legal.{Working, TxnState, Active, Onward, freeing_o
 use Rattle.dali_record.specs.Settled.{redo_all, words_in}
 use Rattle.dali_record.proofs.Ends.{by_push, get_push_cases}
 use Rattle.dali_record.proofs.Pushes.{touch_push_cases}
-use Rattle.dali_index.proofs.Worlds.{part, flags}
-use Rattle.dali_index.proofs.Parts.{Part}
-use Rattle.dali_index.proofs.Worlds.{Flags}
+use Rattle.dali_access.proofs.IndexLemmas.Worlds.{part, flags}
+use Rattle.dali_access.proofs.IndexLemmas.Parts.{Part}
+use Rattle.dali_access.proofs.IndexLemmas.Worlds.{Flags}
 use Rattle.dali_history.specs.Serial.{value_step, values_after, on_key, call_key}
 use Rattle.dali_history.proofs.NoOdd.{odd_value}
-use Rattle.dali_slots.proofs.CallKey.{IsOff, off_on, follow_says}
-use Rattle.dali_slots.proofs.CallProgress.{Own, IsOn}
-use Rattle.dali_slots.proofs.RunningTxn.{Runs}
-use Rattle.dali_kept.specs.Kept.{kept_state, AreKept}
-use Rattle.dali_kept.proofs.WithoutLast.{Touches, sound_before}
-use Rattle.dali_kept.proofs.Invariant.{IsClear, IsAlone, Knows}
-use Rattle.dali_kept.proofs.OperationsKeep.{Forwards, forward_is, gone_on, started}
-use Rattle.dali_kept.proofs.AnswersKeep.{rested_of, done_own}
-use Rattle.dali_kept.proofs.InvariantAlong.{forward_state, back_state, done_state, is_of_is}
-use Rattle.dali_kept.proofs.InvariantSteps.{Fine, Along, fine_before, fine_kept, along_all, along_start, state_step}
-use Rattle.dali_kept.proofs.KnownTxns.{back_is, is_allowed}
+use Rattle.dali_history.proofs.SlotsLemmas.CallKey.{IsOff, off_on, follow_says}
+use Rattle.dali_history.proofs.SlotsLemmas.CallProgress.{Own, IsOn}
+use Rattle.dali_history.proofs.SlotsLemmas.RunningTxn.{Runs}
+use Rattle.dali_history.specs.Kept.Kept.{kept_state, AreKept}
+use Rattle.dali_history.proofs.KeptLemmas.WithoutLast.{Touches, sound_before}
+use Rattle.dali_history.proofs.KeptLemmas.Invariant.{IsClear, IsAlone, Knows}
+use Rattle.dali_history.proofs.KeptLemmas.OperationsKeep.{Forwards, forward_is, gone_on, started}
+use Rattle.dali_history.proofs.KeptLemmas.AnswersKeep.{rested_of, done_own}
+use Rattle.dali_history.proofs.KeptLemmas.InvariantAlong.{forward_state, back_state, done_state, is_of_is}
+use Rattle.dali_history.proofs.KeptLemmas.InvariantSteps.{Fine, Along, fine_before, fine_kept, along_all, along_start, state_step}
+use Rattle.dali_history.proofs.KeptLemmas.KnownTxns.{back_is, is_allowed}
 use Rattle.dali_during.specs.During.{is_amiss, IsQuiet}
 use Rattle.dali_during.proofs.Follows.{Tells, follow_tells}
-use Rattle.dali_kept.proofs.InvariantSteps.{frees_is, solo_state}
+use Rattle.dali_history.proofs.KeptLemmas.InvariantSteps.{frees_is, solo_state}
 
 odd_step : (o : Option (Option (List ℕ))) (c : Call) (p : ℕ) → value_step o (c, Odd p) ≡ None
 odd_step None c p = refl
@@ -90,12 +90,12 @@ pub record Comes (s : Sizes) (F : Flags) (J : List Record) (t : ℕ) (b : Block)
   pub progress : Progress
   pub tells : Tells b.outcome progress
   pub alone : IsAlone t b.key (J ++ Forward t b ∷ [])
-  pub forward : Rattle.dali_slots.proofs.SlotSteps.IsForward b.op
+  pub forward : Rattle.dali_history.proofs.SlotsLemmas.SlotSteps.IsForward b.op
   pub running : Rattle.dali_record.specs.Damage.has (Rattle.dali_record.specs.Log.committed J) t ≡ false
   pub slots : Part
   pub value : Option (List ℕ)
-  pub stands : Rattle.dali_slots.proofs.ValueSlots.Stands s slots value
-  pub reached : Rattle.dali_slots.proofs.ValueSlots.Reached s F b.key slots
+  pub stands : Rattle.dali_history.proofs.SlotsLemmas.ValueSlots.Stands s slots value
+  pub reached : Rattle.dali_history.proofs.SlotsLemmas.ValueSlots.Reached s F b.key slots
   pub own : Own s F b.key P slots value progress
 
 not_fresh : (o : Rattle.dali_record.specs.declared.operations.Outcome.Outcome) (p : Progress) → Tells o p → p ≡ Fresh → ⊥
@@ -140,9 +140,9 @@ forward_comes s base J t b h before_along along = go (some_of (kept_state s t J)
           own = ⊎_elim (λ x. x.1) (λ x. absurd (not_fresh b.outcome p tells (off_on b.key p x.0 on))) goes;
         }
           where
-            goes : Rattle.dali_slots.proofs.RunningTxn.OnOrOff s (flags (redo_all base (J ++ Forward t b ∷ []))) b.key (part s (redo_all base (J ++ Forward t b ∷ [])) b.key) d.2.slots d.2.value p
-            goes = subst (λ x. Rattle.dali_slots.proofs.RunningTxn.OnOrOff s (flags (redo_all base (J ++ Forward t b ∷ []))) b.key (part s (redo_all base (J ++ Forward t b ∷ [])) b.key) d.2.slots d.2.value x) at
-                (subst (λ y. Rattle.dali_slots.proofs.RunningTxn.Goes s (flags (redo_all base (J ++ Forward t b ∷ []))) b.key (part s (redo_all base (J ++ Forward t b ∷ [])) b.key) d.2.slots d.2.value y w.progress) way d.2.goes)
+            goes : Rattle.dali_history.proofs.SlotsLemmas.RunningTxn.OnOrOff s (flags (redo_all base (J ++ Forward t b ∷ []))) b.key (part s (redo_all base (J ++ Forward t b ∷ [])) b.key) d.2.slots d.2.value p
+            goes = subst (λ x. Rattle.dali_history.proofs.SlotsLemmas.RunningTxn.OnOrOff s (flags (redo_all base (J ++ Forward t b ∷ []))) b.key (part s (redo_all base (J ++ Forward t b ∷ [])) b.key) d.2.slots d.2.value x) at
+                (subst (λ y. Rattle.dali_history.proofs.SlotsLemmas.RunningTxn.Goes s (flags (redo_all base (J ++ Forward t b ∷ []))) b.key (part s (redo_all base (J ++ Forward t b ∷ [])) b.key) d.2.slots d.2.value y w.progress) way d.2.goes)
 
     go : (x : TxnState) × (kept_state s t J ≡ Some x) → (y : TxnState) × (kept_state s t (J ++ Forward t b ∷ []) ≡ Some y) → Comes s (flags (redo_all base (J ++ Forward t b ∷ []))) J t b (part s (redo_all base (J ++ Forward t b ∷ [])) b.key)
     go x y =

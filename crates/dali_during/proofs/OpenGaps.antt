@@ -4,16 +4,16 @@ use Rattle.std.specs.Prelude.{◌==◌, ◌&&◌, ◌||◌, not, nat_lt, nat_le}
 use Rattle.std.proofs.lemmas.Bool.{and_parts, eq-eqb, eqb-true, ltb-true}
 use Rattle.dali_geometry.specs.Sizes.{Sizes}
 use Rattle.dali_geometry.specs.Places.{is_place, is_heap, region_at, cell_at}
-use Rattle.dali_heap.specs.Cells as cell
-use Rattle.dali_heap.specs.Cells.{cells}
-use Rattle.dali_index.specs.Entries as entry
-use Rattle.dali_index.specs.Entries.{entries}
-use Rattle.dali_index.specs.Records.{words_of}
-use Rattle.dali_index.specs.Invariant.{Gap, Matched, CellAlone, EntryAlone, Fits, IsCellAlone, IsEntryAlone, HasCell, HasEntry}
+use Rattle.dali_access.specs.Heap.Cells as cell
+use Rattle.dali_access.specs.Heap.Cells.{cells}
+use Rattle.dali_access.specs.Index.Entries as entry
+use Rattle.dali_access.specs.Index.Entries.{entries}
+use Rattle.dali_access.specs.Index.Records.{words_of}
+use Rattle.dali_access.specs.Index.Invariant.{Gap, Matched, CellAlone, EntryAlone, Fits, IsCellAlone, IsEntryAlone, HasCell, HasEntry}
 use Rattle.dali_record.specs.Legal.{passes, rules_start}
 use Rattle.dali_record.specs.declared.records.Record.TheVariants.{Format}
-use Rattle.dali_system.specs.Courses.{Step, Moment, IsCourse}
-use Rattle.dali_system.specs.Worked.{small, first_log, first_vault, look as found, kill_cell}
+use Rattle.dali_runs.specs.Courses.{Step, Moment, IsCourse}
+use Rattle.dali_runs.specs.Worked.{small, first_log, first_vault, look as found, kill_cell}
 use Rattle.dali_crash.specs.Worked.{look}
 use Rattle.dali_crash.specs.Restarted.{put, add}
 use Rattle.dali_crash.proofs.Courses.{format_is_history}
@@ -24,7 +24,7 @@ use Rattle.dali_during.specs.During.{image_of, HasGap, IsIndexedNow}
 use Rattle.dali_during.specs.Gaps.{put_so_far, killed_so_far, CutInInsert, CutInDelete}
 use Rattle.dali_during.proofs.UnpokedCourses.{unpoked_courses}
 use Rattle.dali_during.proofs.Gaps.{first, cell_put, cell_killed, put_so_far_course, killed_so_far_course}
-use Rattle.dali_system.proofs.Worked.{bare_store}
+use Rattle.dali_runs.proofs.Worked.{bare_store}
 
 -- ---- a gap that is open is the only one
 only_cell : (s : Sizes) (image : List (List ℕ)) (k p : ℕ) (g : Gap) → IsCellAlone s image k p → Fits s image k g → g ≡ CellAlone p

@@ -10,12 +10,12 @@ use Rattle.dali_region.specs.declared.Side.TheVariants.{A, B}
 use Rattle.dali_region.specs.State.{RegionState}
 use Rattle.dali_region.specs.Answers.{cleaned}
 use Rattle.dali_att.specs.Table.{Table}
-use Rattle.dali_system.specs.State.{CoreState, row_of, state_in, hold_in, hold_of}
-use Rattle.dali_system.specs.Run.{RunsOn}
-use Rattle.dali_system.specs.Regions.{is_alive}
-use Rattle.dali_system.specs.Keeps.{with_region}
-use Rattle.dali_system.specs.Wholes.{latched_in, AreOfKind, IsWhole}
-use Rattle.dali_system.proofs.WholeSteps.{whole_keeps}
+use Rattle.dali_runs.specs.State.{CoreState, row_of, state_in, hold_in, hold_of}
+use Rattle.dali_runs.specs.Run.{RunsOn}
+use Rattle.dali_runs.specs.Regions.{is_alive}
+use Rattle.dali_runs.specs.Keeps.{with_region}
+use Rattle.dali_runs.specs.Wholes.{latched_in, AreOfKind, IsWhole}
+use Rattle.dali_runs.proofs.WholeSteps.{whole_keeps}
 use Rattle.dali_crash.specs.Checkpoints.{Point, Does, Starts, Keeps, Copies, Skips, WritesHead, Syncs, Turns, CopyFails, HeadFails, SyncFails, TurnFails, Finishes, target, with_flag, with_current, with_fault}
 use Rattle.dali_crash.proofs.StoreRuns.{store_step_none}
 use Rattle.dali_crash.proofs.StoreStarts.{store_base}

@@ -31,10 +31,10 @@ use Rattle.dali_history.proofs.Chained.{is_deleted_in_is_chain, is_deleted_is_ch
 use Rattle.dali_history.proofs.Reported.{deleted_list_is}
 use Rattle.dali_history.proofs.Ascending.{deleted_list_ascends}
 use Rattle.dali_att.specs.declared.state.State.TheVariants.{Committed}
-use Rattle.dali_system.specs.State.{TxnRow, CoreState, row_of}
-use Rattle.dali_system.specs.Run.{Bases, RunsOn, is_committed, IsRow}
-use Rattle.dali_facts.proofs.Begun.{holds_the_begun}
-use Rattle.dali_facts.proofs.Commits.{Com, com_all}
+use Rattle.dali_runs.specs.State.{TxnRow, CoreState, row_of}
+use Rattle.dali_runs.specs.Run.{Bases, RunsOn, is_committed, IsRow}
+use Rattle.dali_runs.proofs.FactsLemmas.Begun.{holds_the_begun}
+use Rattle.dali_runs.proofs.FactsLemmas.Commits.{Com, com_all}
 use Rattle.dali_during.specs.Reported.{named_deleted, reported, ReportsAllDeleted, kept_row, TableIsKept}
 use Rattle.dali_history.proofs.Rising.{Up}
 use Rattle.dali_during.proofs.Ascends.{increasing, same_increasing, deleted_up}

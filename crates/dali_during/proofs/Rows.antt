@@ -13,16 +13,16 @@ use Rattle.dali_record.specs.Damage.{has, marks}
 use Rattle.dali_record.specs.Legal.{TxnState, Unbegun, Active, Over, Committed as Ending, txn_state, allowed}
 use Rattle.dali_record.proofs.Ends.{by_push}
 use Rattle.dali_record.proofs.Pushes.{undos_of_push}
-use Rattle.dali_kept.specs.Kept.{kept_state, kept_step, kept_next, AreKept}
-use Rattle.dali_headline.proofs.Undamaged.{unmarked, no_corrupt}
-use Rattle.dali_headline.proofs.KeptTxns.{Twin, After, after}
+use Rattle.dali_history.specs.Kept.Kept.{kept_state, kept_step, kept_next, AreKept}
+use Rattle.dali_history.proofs.HeadlineLemmas.Undamaged.{unmarked, no_corrupt}
+use Rattle.dali_history.proofs.HeadlineLemmas.KeptTxns.{Twin, After, after}
 use Rattle.dali_during.proofs.EpochNow.{StartsAt, starts_at}
 use Rattle.dali_record.proofs.EpochRules.{StandsThrough, stands_in_epochs, AllEpochs-contains}
-use Rattle.dali_kept.proofs.WithoutLast.{left, HasEnded, kept_state_push}
-use Rattle.dali_kept.proofs.Invariant.{Knows}
-use Rattle.dali_kept.proofs.InvariantSteps.{along_kept}
-use Rattle.dali_system.specs.State.{CoreState}
-use Rattle.dali_system.specs.Run.{Bases, RunsOn}
+use Rattle.dali_history.proofs.KeptLemmas.WithoutLast.{left, HasEnded, kept_state_push}
+use Rattle.dali_history.proofs.KeptLemmas.Invariant.{Knows}
+use Rattle.dali_history.proofs.KeptLemmas.InvariantSteps.{along_kept}
+use Rattle.dali_runs.specs.State.{CoreState}
+use Rattle.dali_runs.specs.Run.{Bases, RunsOn}
 use Rattle.dali_during.proofs.Premises.{undamaged, kept_all, last_in, epoch_whole}
 
 -- ---- the state that the law speaks of
@@ -106,7 +106,7 @@ not_begun s t J = by_push (λ M. NotBegun s t M) (λ some n. (inl refl, refl)) s
     step : (M : List Record) (r : Record) → NotBegun s t M → NotBegun s t (M ++ r ∷ [])
     step M r ih some n =
         let y = some_of (kept_state s t (M ++ r ∷ [])) some in
-        let x = some_of (kept_state s t M) (Rattle.dali_kept.proofs.WithoutLast.kept_before s t M r some) in
+        let x = some_of (kept_state s t M) (Rattle.dali_history.proofs.KeptLemmas.WithoutLast.kept_before s t M r some) in
         let b = or_parts (has (begun M) t) (has (begun (r ∷ [])) t) (sym (begun_push t M r) ∙ n) in
         let before = ih (rw (x.1) refl) b.0 in
         let moved : kept_next s t (kept_state s t M) r ≡ Some y.0 = sym (kept_state_push s t M r) ∙ y.1 in

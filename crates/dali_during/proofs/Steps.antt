@@ -18,24 +18,24 @@ use Rattle.dali_record.specs.Damage.{has}
 use Rattle.dali_record.specs.Legal.{Working, TxnState, Active, on_kind, is_of, freeing_op, is_removal, Committed as IsOver}
 use Rattle.dali_record.specs.Settled.{redo, redo_all, words_in}
 use Rattle.dali_record.proofs.Pushes.{undos_of_push, touch_new, redo_all_push}
-use Rattle.dali_index.proofs.Worlds.{World, Flags, part, flags, put_at}
-use Rattle.dali_index.proofs.Parts.{Part, put_at-beside}
-use Rattle.dali_index.proofs.Reaches.{Rises}
+use Rattle.dali_access.proofs.IndexLemmas.Worlds.{World, Flags, part, flags, put_at}
+use Rattle.dali_access.proofs.IndexLemmas.Parts.{Part, put_at-beside}
+use Rattle.dali_access.proofs.IndexLemmas.Reaches.{Rises}
 use Rattle.dali_history.specs.Images.{map_of}
-use Rattle.dali_slots.proofs.BlockOnSlots.{Does, IsRegion}
-use Rattle.dali_slots.proofs.SoundBlocks.{sound_does, image_redo_all}
-use Rattle.dali_slots.proofs.SlotUndos.{NoneOn, Leads, leads_first, undone_part, slot_of}
-use Rattle.dali_slots.proofs.SlotSteps.{Changed, added_by, forward_changes, changed_beside, changed_leads, undo_does}
-use Rattle.dali_slots.proofs.ValueSlots.{Reached, Stands}
-use Rattle.dali_slots.proofs.AnswersAndBacks.{Undoes, undoes_part, last_split}
-use Rattle.dali_kept.specs.Kept.{kept_state, freed_later}
-use Rattle.dali_kept.proofs.WithoutLast.{left, sound_before, yields_altered}
-use Rattle.dali_kept.proofs.Invariant.{IsAlone, Knows, yields_left, undo_changes}
-use Rattle.dali_kept.proofs.BacksKeep.{BackStep, back_finds, taken_back}
-use Rattle.dali_kept.proofs.SolosKeep.{frees_dead}
-use Rattle.dali_kept.proofs.InvariantAlong.{back_state, region_within, image_region, does_of, is_of_is}
-use Rattle.dali_kept.proofs.InvariantSteps.{Fine, Along, fine_before, block_takes_back, state_step, sound_changes, undone_changes, freeing_changes, frees_is, solo_state, frees_slot}
-use Rattle.dali_kept.proofs.KnownTxns.{back_is, committed_has}
+use Rattle.dali_history.proofs.SlotsLemmas.BlockOnSlots.{Does, IsRegion}
+use Rattle.dali_history.proofs.SlotsLemmas.SoundBlocks.{sound_does, image_redo_all}
+use Rattle.dali_history.proofs.SlotsLemmas.SlotUndos.{NoneOn, Leads, leads_first, undone_part, slot_of}
+use Rattle.dali_history.proofs.SlotsLemmas.SlotSteps.{Changed, added_by, forward_changes, changed_beside, changed_leads, undo_does}
+use Rattle.dali_history.proofs.SlotsLemmas.ValueSlots.{Reached, Stands}
+use Rattle.dali_history.proofs.SlotsLemmas.AnswersAndBacks.{Undoes, undoes_part, last_split}
+use Rattle.dali_history.specs.Kept.Kept.{kept_state, freed_later}
+use Rattle.dali_history.proofs.KeptLemmas.WithoutLast.{left, sound_before, yields_altered}
+use Rattle.dali_history.proofs.KeptLemmas.Invariant.{IsAlone, Knows, yields_left, undo_changes}
+use Rattle.dali_history.proofs.KeptLemmas.BacksKeep.{BackStep, back_finds, taken_back}
+use Rattle.dali_history.proofs.KeptLemmas.SolosKeep.{frees_dead}
+use Rattle.dali_history.proofs.KeptLemmas.InvariantAlong.{back_state, region_within, image_region, does_of, is_of_is}
+use Rattle.dali_history.proofs.KeptLemmas.InvariantSteps.{Fine, Along, fine_before, block_takes_back, state_step, sound_changes, undone_changes, freeing_changes, frees_is, solo_state, frees_slot}
+use Rattle.dali_history.proofs.KeptLemmas.KnownTxns.{back_is, committed_has}
 use Rattle.dali_during.proofs.NoneAmiss.{Comes, forward_comes}
 use Rattle.dali_during.proofs.Moves.{on, own, on_none, left_push, left_same, Good, stands_good, own_good, Move, all_quiet, ends_others}
 
@@ -252,7 +252,7 @@ move_solo s base J t u b h along next k = go (some_of (kept_state s u J) (old.ca
             known : Knows u J (Some (IsOver z.0))
             known = subst (λ o. Knows u J o) before (along.known u)
 
-            with : (d : Pending) × (qs : List Pending) × (y.0 ≡ IsOver qs) × Rattle.dali_kept.proofs.SolosKeep.Frees z.0 d qs × (is_of (freeing_op d.undo) d b ≡ true) → Rises (flags (redo_all base J)) (flags (redo_all base (J ++ Solo t u b ∷ []))) × Move s k J (Solo t u b) (part s (redo_all base J) k) (part s (redo_all base (J ++ Solo t u b ∷ [])) k) (flags (redo_all base (J ++ Solo t u b ∷ [])))
+            with : (d : Pending) × (qs : List Pending) × (y.0 ≡ IsOver qs) × Rattle.dali_history.proofs.KeptLemmas.SolosKeep.Frees z.0 d qs × (is_of (freeing_op d.undo) d b ≡ true) → Rises (flags (redo_all base J)) (flags (redo_all base (J ++ Solo t u b ∷ []))) × Move s k J (Solo t u b) (part s (redo_all base J) k) (part s (redo_all base (J ++ Solo t u b ∷ [])) k) (flags (redo_all base (J ++ Solo t u b ∷ [])))
             with d = ((λ q up. rw (frees.1) up), by_key (eqb_tells d.0.key k))
               where
                 is : (b.key ≡ d.0.key) × (b.region ≡ d.0.region) × (b.op ≡ freeing_op d.0.undo)

@@ -8,14 +8,14 @@ use Rattle.dali_record.specs.Epochs.{last_epoch}
 use Rattle.dali_record.specs.Damage.{has}
 use Rattle.dali_record.specs.Settled.{redo_all}
 use Rattle.dali_history.specs.Undos.{undone}
-use Rattle.dali_kept.specs.Kept.{AreKept}
-use Rattle.dali_kept.proofs.WithoutLast.{HasEnded}
-use Rattle.dali_kept.proofs.Invariant.{Knows}
-use Rattle.dali_kept.proofs.InvariantSteps.{fine_kept, along_start, along_kept}
-use Rattle.dali_undos.specs.AsLeft.{IsAsLeft, FindAsLeft}
-use Rattle.dali_undos.proofs.Found.{order_finds, own_finds, own_order_finds, backs_find}
-use Rattle.dali_system.specs.State.{TxnRow, CoreState, row_of}
-use Rattle.dali_system.specs.Run.{Bases, base_at, RunsOn, IsRow, is_committed}
+use Rattle.dali_history.specs.Kept.Kept.{AreKept}
+use Rattle.dali_history.proofs.KeptLemmas.WithoutLast.{HasEnded}
+use Rattle.dali_history.proofs.KeptLemmas.Invariant.{Knows}
+use Rattle.dali_history.proofs.KeptLemmas.InvariantSteps.{fine_kept, along_start, along_kept}
+use Rattle.dali_history.specs.Undone.AsLeft.{IsAsLeft, FindAsLeft}
+use Rattle.dali_history.proofs.UndoneLemmas.Found.{order_finds, own_finds, own_order_finds, backs_find}
+use Rattle.dali_runs.specs.State.{TxnRow, CoreState, row_of}
+use Rattle.dali_runs.specs.Run.{Bases, base_at, RunsOn, IsRow, is_committed}
 use Rattle.dali_during.specs.UndosFind.{UndosFindInRuns, RowUndosFind, LastUndoFinds, BacksFindInRuns}
 use Rattle.dali_during.proofs.Rows.{twins}
 use Rattle.dali_during.proofs.Runs.{image_is, kept_in_run, row_active}

@@ -16,25 +16,25 @@ use Rattle.dali_history.specs.History.{IsHistory}
 use Rattle.dali_crash.specs.Checkpoints.{Point, StoreStep, IsPointCourse, moment_of}
 use Rattle.dali_crash.proofs.Starts.{lawful}
 use Rattle.dali_crash.proofs.StoreStarts.{store_goes, store_base}
-use Rattle.dali_headline.proofs.Undamaged.{all_survive}
-use Rattle.dali_headline.proofs.NothingToFree.{recovered-base}
-use Rattle.dali_system.specs.State.{stable, VaultState}
-use Rattle.dali_system.specs.Run.{Bases, base_at, log_in, RunsOn, IsPrefix, only, VaultRun, no_image}
-use Rattle.dali_system.specs.Courses.{Step, Moment, IsCourse, RunsAt}
-use Rattle.dali_system.proofs.OneMore.{is_inside, step_inside, last_epoch-push}
-use Rattle.dali_system.proofs.Courses.{Goes, step_goes, course_keeps, bare_course_keeps}
+use Rattle.dali_history.proofs.HeadlineLemmas.Undamaged.{all_survive}
+use Rattle.dali_history.proofs.HeadlineLemmas.NothingToFree.{recovered-base}
+use Rattle.dali_runs.specs.State.{stable, VaultState}
+use Rattle.dali_runs.specs.Run.{Bases, base_at, log_in, RunsOn, IsPrefix, only, VaultRun, no_image}
+use Rattle.dali_runs.specs.Courses.{Step, Moment, IsCourse, RunsAt}
+use Rattle.dali_runs.proofs.OneMore.{is_inside, step_inside, last_epoch-push}
+use Rattle.dali_runs.proofs.Courses.{Goes, step_goes, course_keeps, bare_course_keeps}
 use Rattle.dali_crash.specs.CrashLogs.{cut_to, IsUnpoked}
 use Rattle.dali_crash.specs.Restarts.{HasRightBase}
 use Rattle.dali_crash.proofs.CrashLogs.{cut_parts}
 use Rattle.dali_crash.proofs.Courses.{course_keeps_the_base, honest_before}
-use Rattle.dali_undos.specs.AsLeft.{FindAsLeft}
+use Rattle.dali_history.specs.Undone.AsLeft.{FindAsLeft}
 use Rattle.dali_during.proofs.UndosFind.{undos_find_in_runs}
 use Rattle.dali_during.specs.During.{IsRightBase, image_of, IsTakenBack, NoneFailed, AllSurvive, CourseIsQuiet, ImageIsQuiet, UnpokedCourses, UnpokedCoreTraces, UnpokedPointCourses, UnpokedTraces}
 use Rattle.dali_crash.proofs.Unpoked.{NonePoked, NoneFails, IsClean, none_loaded, course_unpoked, none_failing, none_fails_take, course_clean, store_course_unpoked, store_course_clean}
 use Rattle.dali_during.proofs.Runs.{right_bases, image_is, indexed_in_runs, quiet_in_runs, taken_back_in_runs}
 use Rattle.dali_during.proofs.Ends.{taken_back_at_its_end}
 use Rattle.dali_during.proofs.Shows.{shows_what_is_expected}
-use Rattle.dali_system.proofs.Touching.{trace_course}
+use Rattle.dali_runs.proofs.Touching.{trace_course}
 use Rattle.dali_crash.specs.Traces.{bases_of, core_start, start_point, MayRun, Start}
 use Rattle.dali_crash.proofs.Traces.{core_starts, trace_runs, traced_course, bare_start_runs}
 use Rattle.dali_crash.specs.Unpoked.{pokes, store_pokes}

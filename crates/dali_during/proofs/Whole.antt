@@ -9,8 +9,8 @@ use Rattle.dali_record.specs.declared.records.Answer.TheVariants.{Ok as AnswerOk
 use Rattle.dali_record.specs.declared.records.Record.TheVariants.{Begin, Forward, Done, Commit, Ended, Solo, Back}
 use Rattle.dali_record.specs.Spelling.{IsBlock}
 use Rattle.dali_record.proofs.Made.{made_is_block}
-use Rattle.dali_heap.specs.Cells.{cells}
-use Rattle.dali_index.specs.Entries.{entries}
+use Rattle.dali_access.specs.Heap.Cells.{cells}
+use Rattle.dali_access.specs.Index.Entries.{entries}
 use Rattle.dali_region.specs.declared.Hold.{Hold}
 use Rattle.dali_region.specs.State.{RegionState, touched, taken_back, dead, reading}
 use Rattle.dali_locks.specs.declared.mode.Mode.{Mode}
@@ -20,18 +20,18 @@ use Rattle.dali_locks.proofs.Changes.{get-locks_with}
 use Rattle.dali_att.specs.declared.state.State.TheVariants.{Live, Dead, Cleaning, Committed}
 use Rattle.dali_att.specs.Table.{fresh_row}
 use Rattle.dali_locks.proofs.Kept.{locks_without_at}
-use Rattle.dali_system.specs.State.{TxnRow, state_of, hold_of}
-use Rattle.dali_system.specs.Run.{covers}
-use Rattle.dali_system.specs.Steps.{begun, granted, back_logged, solo_logged, done_logged, commit_logged, ended_logged, in_state}
-use Rattle.dali_system.specs.Keeps.{with_system, died, IsFree, Latches}
-use Rattle.dali_system.specs.Courses.{Step, Begins, Operates, TakesBack, Frees, Answers, Commits, Ends, Locks as Asks, Dies, Claims, Recovers, Moment, IsStepAt, IsCourse}
-use Rattle.dali_system.specs.Worked.{opening, touching, index_words, heap_words, look as found, kill_cell, kill_entry, free_cell, free_entry}
-use Rattle.dali_system.proofs.Tables.{added}
-use Rattle.dali_system.proofs.Wholes.{slain}
-use Rattle.dali_system.proofs.RowStates.{begun_state, op_state, back_state, commit_state, turned_state}
-use Rattle.dali_system.proofs.Loads.{no_lock}
-use Rattle.dali_system.proofs.Touching.{join, with_one, after_all, touches}
-use Rattle.dali_system.proofs.Worked.{are_index, are_heap, logging, logs_by, alive_by, is_look as is_found, is_kill_cell, is_kill_entry, is_free_cell, is_free_entry, strongest}
+use Rattle.dali_runs.specs.State.{TxnRow, state_of, hold_of}
+use Rattle.dali_runs.specs.Run.{covers}
+use Rattle.dali_runs.specs.Steps.{begun, granted, back_logged, solo_logged, done_logged, commit_logged, ended_logged, in_state}
+use Rattle.dali_runs.specs.Keeps.{with_system, died, IsFree, Latches}
+use Rattle.dali_runs.specs.Courses.{Step, Begins, Operates, TakesBack, Frees, Answers, Commits, Ends, Locks as Asks, Dies, Claims, Recovers, Moment, IsStepAt, IsCourse}
+use Rattle.dali_runs.specs.Worked.{opening, touching, index_words, heap_words, look as found, kill_cell, kill_entry, free_cell, free_entry}
+use Rattle.dali_runs.proofs.Tables.{added}
+use Rattle.dali_runs.proofs.Wholes.{slain}
+use Rattle.dali_runs.proofs.RowStates.{begun_state, op_state, back_state, commit_state, turned_state}
+use Rattle.dali_runs.proofs.Loads.{no_lock}
+use Rattle.dali_runs.proofs.Touching.{join, with_one, after_all, touches}
+use Rattle.dali_runs.proofs.Worked.{are_index, are_heap, logging, logs_by, alive_by, is_look as is_found, is_kill_cell, is_kill_entry, is_free_cell, is_free_entry, strongest}
 use Rattle.dali_crash.specs.Worked.{look}
 use Rattle.dali_crash.specs.Restarted.{put, add, put_writes, add_writes}
 use Rattle.dali_during.specs.Whole.{look_free, put_again, unput, before_checkpoint}

@@ -30,8 +30,8 @@ use Rattle.dali_record.specs.Log.{Touch, touch_at, committed}
 use Rattle.dali_record.specs.Epochs.{epochs, last_epoch, failing}
 use Rattle.dali_record.specs.Damage.{has}
 use Rattle.dali_record.specs.Settled.{redo_all}
-use Rattle.dali_index.specs.Invariant.{IsImage, IsIndexed, IsTidy, IsIndexedBut, Gap, Matched}
-use Rattle.dali_index.specs.Records.{records}
+use Rattle.dali_access.specs.Index.Invariant.{IsImage, IsIndexed, IsTidy, IsIndexedBut, Gap, Matched}
+use Rattle.dali_access.specs.Index.Records.{records}
 use Rattle.dali_region.specs.State.{RegionState}
 use Rattle.dali_record.specs.Legal.{Working, Unwinding, Active, txn_state, sizes_of, Rules, rules_state}
 use Rattle.dali_record.specs.Files.{Files}
@@ -39,11 +39,11 @@ use Rattle.dali_history.specs.Serial.{Map, expected, survivors}
 use Rattle.dali_history.specs.Recovered.{base_of, recovered}
 use Rattle.dali_history.specs.History.{IsHistory}
 use Rattle.dali_history.specs.Images.{HasRecords}
-use Rattle.dali_kept.specs.Kept.{uncommitted}
-use Rattle.dali_undos.specs.AsLeft.{FindAsLeft}
-use Rattle.dali_system.specs.State.{TxnRow, CoreState, VaultState, row_of}
-use Rattle.dali_system.specs.Run.{Bases, base_at, log_in, RunsOn, is_committed, VaultRun, no_image, only}
-use Rattle.dali_system.specs.Courses.{Step, Moment, CoreTraced, IsCourse}
+use Rattle.dali_history.specs.Kept.Kept.{uncommitted}
+use Rattle.dali_history.specs.Undone.AsLeft.{FindAsLeft}
+use Rattle.dali_runs.specs.State.{TxnRow, CoreState, VaultState, row_of}
+use Rattle.dali_runs.specs.Run.{Bases, base_at, log_in, RunsOn, is_committed, VaultRun, no_image, only}
+use Rattle.dali_runs.specs.Courses.{Step, Moment, CoreTraced, IsCourse}
 use Rattle.dali_crash.specs.Unpoked.{pokes, store_pokes}
 use Rattle.dali_crash.specs.CrashLogs.{IsUnpoked}
 use Rattle.dali_crash.specs.Restarts.{HasRightBase}

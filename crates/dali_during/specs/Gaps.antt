@@ -8,10 +8,10 @@ use Rattle.std.specs.List.{list_any}
 use Rattle.dali_geometry.specs.Places.{formatted_image}
 use Rattle.dali_record.specs.declared.records.Call.TheVariants.{Insert}
 use Rattle.dali_record.specs.declared.records.Answer.TheVariants.{Ok as AnswerOk}
-use Rattle.dali_index.specs.Invariant.{Gap, CellAlone, EntryAlone, Fits}
+use Rattle.dali_access.specs.Index.Invariant.{Gap, CellAlone, EntryAlone, Fits}
 use Rattle.dali_locks.specs.declared.mode.Mode.TheVariants.{Exclusive}
-use Rattle.dali_system.specs.Courses.{Step, Begins, Operates, Answers, Locks, Moment, IsCourse}
-use Rattle.dali_system.specs.Worked.{small, start, touching, look as found, kill_cell}
+use Rattle.dali_runs.specs.Courses.{Step, Begins, Operates, Answers, Locks, Moment, IsCourse}
+use Rattle.dali_runs.specs.Worked.{small, start, touching, look as found, kill_cell}
 use Rattle.dali_crash.specs.Unpoked.{pokes}
 use Rattle.dali_crash.specs.Worked.{look}
 use Rattle.dali_crash.specs.Restarted.{put, add, put_writes, add_writes}

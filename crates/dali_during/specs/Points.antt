@@ -4,9 +4,9 @@
 --     PointCourseKeepsTheBase  the base of the last epoch stays right
 use Rattle.std.specs.Prelude.{List}
 use Rattle.dali_record.specs.declared.records.Record.{Record}
-use Rattle.dali_system.specs.Run.{Bases, RunsOn, no_image}
-use Rattle.dali_system.specs.Courses.{RunsAt}
-use Rattle.dali_system.specs.Wholes.{IsWhole}
+use Rattle.dali_runs.specs.Run.{Bases, RunsOn, no_image}
+use Rattle.dali_runs.specs.Courses.{RunsAt}
+use Rattle.dali_runs.specs.Wholes.{IsWhole}
 use Rattle.dali_crash.specs.Checkpoints.{StoreStep, Point, moment_of, IsPointStep, IsPointCourse}
 use Rattle.dali_crash.specs.Restarts.{HasRightBase}
 

@@ -25,9 +25,9 @@ use Rattle.dali_history.specs.Serial.{survivors}
 use Rattle.dali_history.specs.History.{IsHistory}
 use Rattle.dali_history.specs.Acknowledged.{IsDeletedByChain}
 use Rattle.dali_replay.specs.Replayed.{Replayed, IsReplay}
-use Rattle.dali_system.specs.State.{TxnRow, VaultState, CoreState, row_of}
-use Rattle.dali_system.specs.Run.{Bases, RunsOn, is_committed, log_in}
-use Rattle.dali_system.specs.Images.{Told}
+use Rattle.dali_runs.specs.State.{TxnRow, VaultState, CoreState, row_of}
+use Rattle.dali_runs.specs.Run.{Bases, RunsOn, is_committed, log_in}
+use Rattle.dali_runs.specs.Images.{Told}
 use Rattle.dali_crash.specs.Unpoked.{store_pokes}
 use Rattle.dali_crash.specs.Checkpoints.{Head, StoreStep, Point, Traced}
 use Rattle.dali_during.specs.During.{NoneFailed}

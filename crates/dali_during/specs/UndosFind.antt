@@ -14,12 +14,12 @@ use Rattle.dali_record.specs.declared.records.Record.{Record}
 use Rattle.dali_record.specs.declared.records.Record.TheVariants.{Back}
 use Rattle.dali_record.specs.Log.{undos_of}
 use Rattle.dali_record.specs.Epochs.{last_epoch}
-use Rattle.dali_kept.specs.Kept.{uncommitted}
-use Rattle.dali_undos.specs.AsLeft.{slot_at, moment, IsAsLeft, FindAsLeft, IsTakenBack}
-use Rattle.dali_system.specs.State.{TxnRow, CoreState, row_of}
-use Rattle.dali_system.specs.Run.{Bases, base_at, RunsOn, is_committed}
-use Rattle.dali_system.specs.Courses.{Step, Moment, IsCourse}
-use Rattle.dali_system.specs.Worked.{small, start}
+use Rattle.dali_history.specs.Kept.Kept.{uncommitted}
+use Rattle.dali_history.specs.Undone.AsLeft.{slot_at, moment, IsAsLeft, FindAsLeft, IsTakenBack}
+use Rattle.dali_runs.specs.State.{TxnRow, CoreState, row_of}
+use Rattle.dali_runs.specs.Run.{Bases, base_at, RunsOn, is_committed}
+use Rattle.dali_runs.specs.Courses.{Step, Moment, IsCourse}
+use Rattle.dali_runs.specs.Worked.{small, start}
 use Rattle.dali_crash.specs.CrashLogs.{IsUnpoked}
 use Rattle.dali_during.specs.During.{IsRightBase, image_of}
 use Rattle.dali_during.specs.Gaps.{put_so_far, killed_so_far}

@@ -17,10 +17,10 @@ use Rattle.dali_record.specs.Blocks.{made}
 use Rattle.dali_record.specs.Files.{Files}
 use Rattle.dali_locks.specs.declared.mode.Mode.TheVariants.{Exclusive}
 use Rattle.dali_history.specs.Serial.{survivors}
-use Rattle.dali_system.specs.declared.causes.Cause.TheVariants.{Store}
-use Rattle.dali_system.specs.Courses.{Step, Begins, Operates, TakesBack, Frees, Answers, Commits, Ends, Locks, AuditBegins, AuditEnds, Passes, Dies, Claims, Recovers, Takes, Flushes, Faults, Stops}
-use Rattle.dali_system.specs.Run.{log_in}
-use Rattle.dali_system.specs.Worked.{first_log, touching, index_words, heap_words, look as found, kill_cell, kill_entry, free_cell, free_entry, first_files}
+use Rattle.dali_runs.specs.declared.causes.Cause.TheVariants.{Store}
+use Rattle.dali_runs.specs.Courses.{Step, Begins, Operates, TakesBack, Frees, Answers, Commits, Ends, Locks, AuditBegins, AuditEnds, Passes, Dies, Claims, Recovers, Takes, Flushes, Faults, Stops}
+use Rattle.dali_runs.specs.Run.{log_in}
+use Rattle.dali_runs.specs.Worked.{first_log, touching, index_words, heap_words, look as found, kill_cell, kill_entry, free_cell, free_entry, first_files}
 use Rattle.dali_crash.specs.Worked.{look}
 use Rattle.dali_crash.specs.Restarted.{put, add, put_writes, add_writes}
 use Rattle.dali_crash.specs.Checkpoints.{Head, StoreStep, Does, Starts, Keeps, Copies, WritesHead, Syncs, Turns, Finishes, Point, Traced, moment_of}

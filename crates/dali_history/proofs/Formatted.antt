@@ -3,9 +3,9 @@ use Rattle.std.proofs.Common.{◌≡◌, ℕ, zero, suc, ◌+◌, ◌<◌, List,
 use Rattle.std.specs.Prelude.{replicate, slice_index, slice_index_or}
 use Rattle.dali_geometry.specs.Sizes.{Sizes}
 use Rattle.dali_geometry.specs.Places.{formatted_image}
-use Rattle.dali_heap.specs.Cells as cell
-use Rattle.dali_index.specs.Entries as entry
-use Rattle.dali_index.proofs.Forms.{formatted_records}
+use Rattle.dali_access.specs.Heap.Cells as cell
+use Rattle.dali_access.specs.Index.Entries as entry
+use Rattle.dali_access.proofs.IndexLemmas.Forms.{formatted_records}
 use Rattle.dali_record.specs.Settled.{words_in}
 use Rattle.dali_history.specs.Serial.{empty_map}
 use Rattle.dali_history.specs.Images.{HasRecords}

@@ -5,8 +5,8 @@ use Rattle.std.proofs.lemmas.List.{length-set, length-map, length-take, length-d
 use Rattle.std.proofs.lemmas.List.Elements.{All-set, All-same, All-get_or, All-map, All-take, All-drop, All-append, All-weaker}
 use Rattle.std.proofs.lemmas.Bool.{cases_lt}
 use Rattle.dali_geometry.specs.Sizes.{Sizes}
-use Rattle.dali_heap.specs.Cells as cell
-use Rattle.dali_index.specs.Entries as entry
+use Rattle.dali_access.specs.Heap.Cells as cell
+use Rattle.dali_access.specs.Index.Entries as entry
 use Rattle.dali_record.specs.declared.operations.Pending.{Pending}
 use Rattle.dali_record.specs.declared.operations.Undo.{Undo}
 use Rattle.dali_record.specs.declared.operations.Undo.TheVariants.{FreeCell as UndoFreeCell, ReviveCell as UndoReviveCell, Restore as UndoRestore, FreeEntry as UndoFreeEntry, ReviveEntry as UndoReviveEntry}
@@ -16,7 +16,7 @@ use Rattle.dali_record.specs.Blocks.{rewritten}
 use Rattle.dali_record.specs.Log.{Touch, touch_of}
 use Rattle.dali_record.specs.Settled.{words_in, redo, redo_touch, redo_all}
 use Rattle.dali_history.specs.Recovered.{undo_into, free_word, freed}
-use Rattle.dali_index.specs.Invariant.{IsImage}
+use Rattle.dali_access.specs.Index.Invariant.{IsImage}
 use Rattle.dali_history.specs.Undos.{undone}
 use Rattle.dali_words.proofs.Masks.{length-write_under, length-write_all}
 

@@ -18,3 +18,9 @@ pub mod Chained
 pub mod NoOdd
 pub mod Restarts
 pub mod Prefixes
+pub mod SlotsLemmas
+pub mod KeptLemmas
+pub mod HeadlineLemmas
+pub mod UndoneLemmas
+pub mod RoomLemmas
+pub mod ExamplesLemmas

@@ -5,7 +5,7 @@ use Rattle.std.specs.List.{find}
 use Rattle.std.proofs.lemmas.Bool.Decides.{Decides-eqb}
 use Rattle.std.proofs.lemmas.Bool.{both_ways}
 use Rattle.dali_geometry.specs.Sizes.{Sizes}
-use Rattle.dali_index.specs.Records.{records}
+use Rattle.dali_access.specs.Index.Records.{records}
 use Rattle.dali_history.specs.Serial.{Map}
 use Rattle.dali_history.specs.Images.{HasRecords, map_of, value_in}
 

@@ -4,7 +4,7 @@
 use Rattle.std.specs.Prelude.{◌≡◌, ℕ, ◌↔◌, List, ◌==◌, Option, Some, None, Contains}
 use Rattle.std.specs.List.{find}
 use Rattle.dali_geometry.specs.Sizes.{Sizes}
-use Rattle.dali_index.specs.Records.{records}
+use Rattle.dali_access.specs.Index.Records.{records}
 use Rattle.dali_history.specs.Serial.{Map}
 
 abbrev pub value_in : Option (ℕ × List ℕ) → Option (List ℕ)

@@ -4,8 +4,8 @@
 --     undone image ps          the image after these undos
 --     FindsAll image ps        each of them finds its slot so, after those before it
 use Rattle.std.specs.Prelude.{◌≡◌, ℕ, Bool, true, ◌&&◌, ⊤, List, [], ◌∷◌, ◌++◌, ◌==◌, fold, reverse}
-use Rattle.dali_heap.specs.Cells as cell
-use Rattle.dali_index.specs.Entries as entry
+use Rattle.dali_access.specs.Heap.Cells as cell
+use Rattle.dali_access.specs.Index.Entries as entry
 use Rattle.dali_record.specs.declared.operations.Pending.{Pending}
 use Rattle.dali_record.specs.declared.operations.Undo.{Undo}
 use Rattle.dali_record.specs.declared.operations.Undo.TheVariants.{FreeCell as UndoFreeCell, ReviveCell as UndoReviveCell, Restore as UndoRestore, FreeEntry as UndoFreeEntry, ReviveEntry as UndoReviveEntry}

@@ -3,7 +3,7 @@ ghost use Rattle.std.specs.Prelude.{◌≡◌, ◌<◌, ◌++◌, ◌∷◌, [],
 ghost use Rattle.std.specs.List.Sorted.{IsStrictlyIncreasing};
 ghost use Rattle.dali_geometry.specs.Sizes.{Sizes};
 ghost use Rattle.dali_geometry.specs.Places.{formatted_image};
-ghost use Rattle.dali_index.specs.Invariant.{IsImage, IsIndexed, IsTidy};
+ghost use Rattle.dali_access.specs.Index.Invariant.{IsImage, IsIndexed, IsTidy};
 ghost use Rattle.dali_record.specs.declared.records.Answer.{Answer};
 ghost use Rattle.dali_record.specs.declared.records.Answer.TheVariants.{Odd};
 ghost use Rattle.dali_record.specs.declared.records.Call.{Call};

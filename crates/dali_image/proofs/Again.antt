@@ -20,7 +20,7 @@ use Rattle.dali_record.specs.declared.operations.Pending.{Pending}
 use Rattle.dali_record.specs.Spelling.{flag_bytes, words_bytes, undo_bytes, Is32, Is64, IsUndo, is_cell, is_entry, IsCell, IsEntry, AreFive, ascends}
 use Rattle.dali_record.specs.Reading.{is_above}
 use Rattle.dali_record.specs.Files.{Row}
-use Rattle.dali_traces.specs.Disks.{pending_bytes, row_bytes, table_bytes, undoes_on, IsPendingIn, IsRowIn, txn_in}
+use Rattle.dali_crash.specs.Disks.Disks.{pending_bytes, row_bytes, table_bytes, undoes_on, IsPendingIn, IsRowIn, txn_in}
 use Rattle.dali_image.specs.Decoding.{◌>>=◌, or_bad, good, byte_from, number32_from, number64_from, cell_from, entry_from, flag_from, five_from, restore_from, undo_from, kind_from, is_on, region_from, pending_from, pendings_from, txn_from, count_from, row_from, rows_from, with_row, start, table_in}
 use Rattle.dali_image.specs.Laws.{with_rows, TablesAreReadAgain}
 use Rattle.dali_image.proofs.Taken.{Rises}

@@ -2,7 +2,7 @@
 use Rattle.std.proofs.Common.{◌≡◌, ℕ, ◌≤◌, List, ◌++◌, length, take, drop, ap, sym, ◌∙◌, inl, inr, arith, append_assoc, length-take, take-append-drop}
 use Rattle.std.proofs.lemmas.List.{take-take}
 use Rattle.dali_bytes.specs.Fields.{number32}
-use Rattle.dali_traces.specs.Disks.{mark}
+use Rattle.dali_crash.specs.Disks.Disks.{mark}
 use Rattle.dali_image.specs.Headers.{heading, HasHeading, NoHeading}
 use Rattle.dali_image.specs.declared.header.Header.{Header}
 

@@ -8,7 +8,7 @@ use Rattle.std.proofs.lemmas.Slice.Eq.{starts_is}
 use Rattle.dali_geometry.specs.Sizes.{Sizes, AreInRange}
 use Rattle.dali_bytes.specs.Fields.{number32, number64}
 use Rattle.dali_record.specs.Spelling.{fields}
-use Rattle.dali_traces.specs.Disks.{mark}
+use Rattle.dali_crash.specs.Disks.Disks.{mark}
 use Rattle.dali_image.specs.Headers.{NoHeading}
 
 pub not_marked : (bytes : List ℕ) (r : Bool) → r ≡ pointwise (λ a b. a == b) mark (take 8 bytes) → r ≡ false → NoHeading bytes 0

@@ -6,8 +6,8 @@ use Rattle.dali_bytes.specs.Reading.{number32_at, number64_at}
 use Rattle.dali_bytes.proofs.Numbers.{number32_again, number64_again, length-number32, length-number64}
 use Rattle.dali_record.specs.Spelling.{Is32, Is64}
 use Rattle.dali_record.proofs.Readers.{some_is}
-use Rattle.dali_traces.specs.Disks.{mark}
-use Rattle.dali_traces.proofs.Images.{eight_fields}
+use Rattle.dali_crash.specs.Disks.Disks.{mark}
+use Rattle.dali_crash.proofs.DisksLemmas.Images.{eight_fields}
 use Rattle.dali_image.specs.Headers.{heading, NoHeading}
 use Rattle.dali_image.specs.Laws.{HeadersAreBytes, IsHeader, OneHeader}
 use Rattle.dali_image.specs.declared.header.Header.{Header}

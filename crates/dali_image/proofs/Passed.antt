@@ -6,7 +6,7 @@ use Rattle.std.proofs.lemmas.List.{take_at}
 use Rattle.std.proofs.lemmas.Bool.{or_parts}
 use Rattle.dali_record.specs.Spelling.{Is64}
 use Rattle.dali_crash.specs.Checkpoints.{Head}
-use Rattle.dali_traces.specs.Disks.{table_bytes}
+use Rattle.dali_crash.specs.Disks.Disks.{table_bytes}
 use Rattle.dali_image.specs.Headers.{heading, bad_header, IsWanted}
 use Rattle.dali_image.specs.Reading.{table_place, table_part}
 use Rattle.dali_image.specs.Laws.{header_of, IsSpelled, WhatPassesIsAnImage}

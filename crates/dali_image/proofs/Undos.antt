@@ -11,7 +11,7 @@ use Rattle.dali_att.specs.Table.{Row as Entry, Table, undos_at}
 use Rattle.dali_att.proofs.Changes.{get-added}
 use Rattle.dali_record.specs.declared.operations.Pending.{Pending}
 use Rattle.dali_record.specs.Files.{Row}
-use Rattle.dali_traces.specs.Disks.{IsPendingIn, IsRowIn}
+use Rattle.dali_crash.specs.Disks.Disks.{IsPendingIn, IsRowIn}
 use Rattle.dali_image.specs.Rows.{kept, AreUndos}
 use Rattle.dali_image.specs.Decoding.{with_row, table_in}
 use Rattle.dali_image.specs.Reading.{table_place, table_part, ReadsTable}

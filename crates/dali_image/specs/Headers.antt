@@ -8,7 +8,7 @@ use Rattle.std.specs.Prelude.{◌≡◌, ◌⊎◌, ℕ, ◌<◌, ◌≤◌, ◌
 use Rattle.dali_geometry.specs.Sizes.{Sizes, AreInRange}
 use Rattle.dali_bytes.specs.Fields.{number32, number64}
 use Rattle.dali_record.specs.Spelling.{fields}
-use Rattle.dali_traces.specs.Disks.{mark}
+use Rattle.dali_crash.specs.Disks.Disks.{mark}
 use Rattle.dali_image.specs.declared.header.Header.{Header}
 use Rattle.dali_image.specs.declared.header.Expected.{Expected}
 

@@ -21,8 +21,8 @@ use Rattle.dali_record.specs.declared.operations.Pending.{Pending}
 use Rattle.dali_record.specs.Spelling.{Is32, Is64, ascends}
 use Rattle.dali_record.specs.Files.{Row}
 use Rattle.dali_crash.specs.Checkpoints.{Head}
-use Rattle.dali_traces.specs.Disks.{header_bytes, table_bytes, IsRowIn, txn_in, CanBeImage}
-use Rattle.dali_traces.specs.Places.{ReadsHead}
+use Rattle.dali_crash.specs.Disks.Disks.{header_bytes, table_bytes, IsRowIn, txn_in, CanBeImage}
+use Rattle.dali_crash.specs.Disks.Places.{ReadsHead}
 use Rattle.dali_image.specs.Headers.{heading, HasHeading, NoHeading, bad_header}
 use Rattle.dali_image.specs.Rows.{rows_of}
 use Rattle.dali_image.specs.Decoding.{with_row, table_in}

@@ -9,8 +9,8 @@ use Rattle.dali_bytes.specs.Cursor.{IsBytes}
 use Rattle.dali_att.specs.Table.{Table}
 use Rattle.dali_record.specs.declared.operations.Pending.{Pending}
 use Rattle.dali_record.specs.Spelling.{words_bytes}
-use Rattle.dali_batch.specs.Batch.{IsOpenAt}
-use Rattle.dali_traces.specs.Places.{place_of}
+use Rattle.dali_log.specs.Batch.{IsOpenAt}
+use Rattle.dali_crash.specs.Disks.Places.{place_of}
 use Rattle.dali_image.specs.Decoding.{table_in}
 use Rattle.dali_image.specs.declared.header.Header.{Header}
 

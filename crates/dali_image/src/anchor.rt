@@ -3,9 +3,9 @@ ghost use Rattle.std.specs.Prelude.{◌≡◌, ◌<◌, ◌^◌, ℕ, length, If
 ghost use Rattle.dali_store.specs.declared.store.FileName.{FileName};
 ghost use Rattle.dali_store.specs.declared.store.FileName.TheVariants.{Anchor};
 ghost use Rattle.dali_store.specs.Calls.{MakesAtMost};
-ghost use Rattle.dali_batch.specs.Batch.{IsOpenAt};
-ghost use Rattle.dali_batch.specs.Reads.{ReadsOrFails};
-ghost use Rattle.dali_traces.specs.Disks.{IsAnchor};
+ghost use Rattle.dali_log.specs.Batch.{IsOpenAt};
+ghost use Rattle.dali_log.specs.Reads.{ReadsOrFails};
+ghost use Rattle.dali_log.specs.Anchors.{IsAnchor};
 ghost use Rattle.dali_image.specs.Reading.{NoAnchor};
 
 use crate::ImageError;
@@ -37,7 +37,7 @@ pub fn current<V: Store>(alloc: Global, store: &mut V) -> Result<u64, ImageError
     ensures ok { IfOk result (λ number. IfSome (V.told store.old) (λ fs. IsAnchor fs.anchor number)) }
     ensures small { IfOk result (λ number. number < 2 ^ 62) }
     ensures bad { IfErr result (λ e. (file : FileName) (at : ℕ) → e ≡ ImageError.BadImage file at → (file ≡ Anchor) × IfSome (V.told store.old) (λ fs. NoAnchor fs.anchor at)) }
-    ensures store { ReadsOrFails V.told V.moment V.left_since V.may_leave V.faults V.lets_pass (IsErrOf result ImageError.Fault) store.old store.new }
+    ensures store { ReadsOrFails V.Store (IsErrOf result ImageError.Fault) store.old store.new }
     ensures most { MakesAtMost 2 (V.lets_pass store.old) (V.lets_pass store.new) }
 {
     let file = FileName::Anchor;

@@ -1,7 +1,7 @@
 //! The header of an image file.
 ghost use Rattle.std.specs.Prelude.{◌≡◌, ◌≤◌, ◌+◌, ◌++◌, ℕ, length, drop, Some, None, IfOk, IfErr, OnOk};
 ghost use Rattle.dali_bytes.specs.Fields.{number32 as spelled32, number64 as spelled64};
-ghost use Rattle.dali_traces.specs.Disks.{image_name};
+ghost use Rattle.dali_crash.specs.Disks.Disks.{image_name};
 ghost use Rattle.dali_image.specs.Headers.{heading, NoHeading, bad_header, IsWanted};
 ghost use Rattle.dali_image.specs.Laws.{IsHeader};
 

@@ -3,8 +3,8 @@ ghost use Rattle.std.specs.Prelude.{◌≡◌, ◌≤◌, ◌<◌, ◌+◌, true
 ghost use Rattle.dali_store.specs.Calls.{one_less};
 ghost use Rattle.dali_store.specs.Faults.{Rose};
 ghost use Rattle.dali_store.specs.Store.{file_of};
-ghost use Rattle.dali_batch.specs.Reads.{OnlyReads};
-ghost use Rattle.dali_traces.specs.Disks.{image_name};
+ghost use Rattle.dali_log.specs.Reads.{OnlyReads};
+ghost use Rattle.dali_crash.specs.Disks.Disks.{image_name};
 
 use dali_region::Side;
 use dali_store::{FileName, Store, StoreFault};

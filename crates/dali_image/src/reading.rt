@@ -3,9 +3,9 @@ ghost use Rattle.std.specs.Prelude.{◌≡◌, ◌≤◌, ◌<◌, ◌+◌, ◌^
 ghost use Rattle.dali_store.specs.declared.store.FileName.{FileName};
 ghost use Rattle.dali_store.specs.Calls.{MakesAtMost};
 ghost use Rattle.dali_store.specs.Store.{file_of};
-ghost use Rattle.dali_batch.specs.Reads.{ReadsOrFails};
-ghost use Rattle.dali_traces.specs.Disks.{image_name};
-ghost use Rattle.dali_traces.specs.Places;
+ghost use Rattle.dali_log.specs.Reads.{ReadsOrFails};
+ghost use Rattle.dali_crash.specs.Disks.Disks.{image_name};
+ghost use Rattle.dali_crash.specs.Disks.Places;
 ghost use Rattle.dali_record.specs.Spelling.{words_bytes};
 ghost use Rattle.dali_image.specs.Headers.{HasHeading, NoHeading};
 ghost use Rattle.dali_att.specs.Table.{undos_at};
@@ -37,7 +37,7 @@ pub fn read_header<V: Store>(store: &mut V, side: Side) -> Result<Header, ImageE
         (file ≡ image_name side) × IfSome (V.told store.old) (λ fs. NoHeading (file_of (image_name side) fs) at)) }
     ensures fits { IfOk result (λ header. IsHeader header) }
     ensures room { IsErrOf result ImageError.OutOfMemory → ⊥ }
-    ensures store { ReadsOrFails V.told V.moment V.left_since V.may_leave V.faults V.lets_pass (IsErrOf result ImageError.Fault) store.old store.new }
+    ensures store { ReadsOrFails V.Store (IsErrOf result ImageError.Fault) store.old store.new }
     ensures most { MakesAtMost 1 (V.lets_pass store.old) (V.lets_pass store.new) }
 {
     let file = image_of(side);
@@ -86,7 +86,7 @@ pub fn read_regions<V: Store>(
     ensures ok { OnOk result (IfSome (V.told store.old) (λ fs. ReadsRegions (file_of (image_name side) fs) from into.new)) }
     ensures bad { IfErr result (λ e. (file : FileName) (at : ℕ) → e ≡ ImageError.BadImage file at →
         (file ≡ image_name side) × (at ≡ 56) × IfSome (V.told store.old) (λ fs. length (file_of (image_name side) fs) < end_of from (length into.old))) }
-    ensures store { ReadsOrFails V.told V.moment V.left_since V.may_leave V.faults V.lets_pass (IsErrOf result ImageError.Fault) store.old store.new }
+    ensures store { ReadsOrFails V.Store (IsErrOf result ImageError.Fault) store.old store.new }
     ensures most { MakesAtMost 1 (V.lets_pass store.old) (V.lets_pass store.new) }
 {
     let file = image_of(side);
@@ -111,7 +111,7 @@ pub fn read_region<V: Store>(
     ensures ok { IfOk result (λ words. IfSome (V.told store.old) (λ fs. ReadsRegions (file_of (image_name side) fs) region (words ∷ []))) }
     ensures bad { IfErr result (λ e. (file : FileName) (at : ℕ) → e ≡ ImageError.BadImage file at →
         (file ≡ image_name side) × (at ≡ 56) × IfSome (V.told store.old) (λ fs. length (file_of (image_name side) fs) < end_of region 1)) }
-    ensures store { ReadsOrFails V.told V.moment V.left_since V.may_leave V.faults V.lets_pass (IsErrOf result ImageError.Fault) store.old store.new }
+    ensures store { ReadsOrFails V.Store (IsErrOf result ImageError.Fault) store.old store.new }
     ensures most { MakesAtMost 1 (V.lets_pass store.old) (V.lets_pass store.new) }
 {
     let mut words = [[0; 64]; 1];
@@ -134,7 +134,7 @@ pub fn read_table<V: Store>(
     ensures undos { IfOk result (λ att. (t : ℕ) → AreUndos (undos_at att t)) }
     ensures bad { IfErr result (λ e. (file : FileName) (at : ℕ) → e ≡ ImageError.BadImage file at →
         (file ≡ image_name side) × IfSome (V.told store.old) (λ fs. NoTable (file_of (image_name side) fs) header.now at)) }
-    ensures store { ReadsOrFails V.told V.moment V.left_since V.may_leave V.faults V.lets_pass (IsErrOf result ImageError.Fault) store.old store.new }
+    ensures store { ReadsOrFails V.Store (IsErrOf result ImageError.Fault) store.old store.new }
     ensures most { MakesAtMost 2 (V.lets_pass store.old) (V.lets_pass store.new) }
 {
     let file = image_of(side);
@@ -164,7 +164,7 @@ fn part<V: Store>(
     ensures small { IfOk result (λ bytes. place + length bytes.items < 2 ^ 62) }
     ensures bad { IfErr result (λ e. (file : FileName) (at : ℕ) → e ≡ ImageError.BadImage file at →
         (file ≡ image_name side) × (at ≡ 56) × IfSome (V.told store.old) (λ fs. length (file_of (image_name side) fs) < place + size)) }
-    ensures store { ReadsOrFails V.told V.moment V.left_since V.may_leave V.faults V.lets_pass (IsErrOf result ImageError.Fault) store.old store.new }
+    ensures store { ReadsOrFails V.Store (IsErrOf result ImageError.Fault) store.old store.new }
     ensures most { MakesAtMost 2 (V.lets_pass store.old) (V.lets_pass store.new) }
 {
     let file = image_of(side);

@@ -2,8 +2,8 @@
 ghost use Rattle.std.specs.Prelude.{◌≡◌, ◌++◌, Some, OnOk, IfOk, flat_map};
 ghost use Rattle.dali_bytes.specs.Fields.{number32};
 ghost use Rattle.dali_record.specs.Spelling.{undo_bytes, words_bytes};
-ghost use Rattle.dali_traces.specs.Disks.{pending_bytes, row_bytes};
-ghost use Rattle.dali_traces.specs.Disks;
+ghost use Rattle.dali_crash.specs.Disks.Disks.{pending_bytes, row_bytes};
+ghost use Rattle.dali_crash.specs.Disks.Disks;
 ghost use Rattle.dali_image.specs.Rows.{rows_of, row_at};
 
 use dali_att::{Att, State};

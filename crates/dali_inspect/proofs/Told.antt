@@ -3,9 +3,9 @@ use Rattle.std.proofs.Common.{◌≡◌, ◌∙◌, ℕ, List, [], false, Option
 use Rattle.dali_store.specs.declared.store.FileName.{FileName}
 use Rattle.dali_store.specs.Store.{Files as Disk}
 use Rattle.dali_region.specs.State.{RegionState}
-use Rattle.dali_system.specs.State.{SystemState}
-use Rattle.dali_traces.specs.Disks.{head_of}
-use Rattle.dali_vault.specs.Vaulted.{Vaulted}
+use Rattle.dali_runs.specs.State.{SystemState}
+use Rattle.dali_crash.specs.Disks.Disks.{head_of}
+use Rattle.dali_core.specs.Vault.Vaulted.{Vaulted}
 use Rattle.dali_restart.specs.declared.error.RestartError.{RestartError}
 use Rattle.dali_restart.specs.declared.error.RestartError.TheVariants as restarts
 use Rattle.dali_restart.specs.Restarting.{BeginsRun}

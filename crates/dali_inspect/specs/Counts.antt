@@ -5,9 +5,9 @@
 --     cells_in_use, entries_in_use s image     those of all regions of their kind
 use Rattle.std.specs.Prelude.{ℕ, zero, suc, ◌+◌, Bool, List, if◌then◌else◌, ◌==◌}
 use Rattle.dali_geometry.specs.Sizes.{Sizes}
-use Rattle.dali_heap.specs.Cells as cell
-use Rattle.dali_index.specs.Entries as entry
-use Rattle.dali_index.specs.Records.{words_of}
+use Rattle.dali_access.specs.Heap.Cells as cell
+use Rattle.dali_access.specs.Index.Entries as entry
+use Rattle.dali_access.specs.Index.Records.{words_of}
 
 abbrev pub one : Bool → ℕ
 one b = if b then 1 else 0

@@ -13,14 +13,14 @@ use Rattle.dali_record.specs.declared.records.Record.{Record}
 use Rattle.dali_record.specs.Files.{Files}
 use Rattle.dali_record.specs.Legal.{Rules, rules_state, sizes_of}
 use Rattle.dali_store.specs.Store.{Files as Disk}
-use Rattle.dali_batch.specs.Stream.{Reading}
-use Rattle.dali_system.specs.Run.{log_in}
+use Rattle.dali_log.specs.Stream.{Reading}
+use Rattle.dali_runs.specs.Run.{log_in}
 use Rattle.dali_crash.specs.Checkpoints.{side_of}
-use Rattle.dali_traces.specs.Disks.{Spells, image_name}
+use Rattle.dali_crash.specs.Disks.Disks.{Spells, image_name}
 use Rattle.dali_image.specs.declared.header.Header.{Header}
 use Rattle.dali_resume.specs.Again.{Outcome}
-use Rattle.dali_again.specs.Found.{FindsIt}
-use Rattle.dali_renewal.specs.Logged.{restart_length}
+use Rattle.dali_resume.specs.Interrupted.Found.{FindsIt}
+use Rattle.dali_restart.specs.Renewal.Logged.{restart_length}
 use Rattle.dali_restart.specs.Opening.{IsOpened}
 use Rattle.dali_restart.specs.Restarting.{Gives, GoesOnFrom, IsReadAs, outcome}
 use Rattle.dali_inspect.specs.declared.inspecting.Image.{Image}

@@ -2,7 +2,7 @@
 ghost use Rattle.std.specs.Prelude.{◌≡◌, ◌⊎◌, IfOk, IfErr, IfSome, IsErrOf};
 ghost use Rattle.dali_store.specs.Calls.{MakesAtMost};
 ghost use Rattle.dali_store.specs.Store.{file_of};
-ghost use Rattle.dali_batch.specs.Reads.{ReadsOrFails};
+ghost use Rattle.dali_log.specs.Reads.{ReadsOrFails};
 ghost use Rattle.dali_memstore.specs.Memory.{files_of};
 ghost use Rattle.dali_inspect.specs.declared.error.InspectError.TheVariants as errors;
 
@@ -19,7 +19,7 @@ fn read_file<V: Store>(
 ) -> Result<Vec<u8>, InspectError>
     ensures bytes { IfOk result (λ bytes. IfSome (V.told store.old) (λ fs. bytes.items ≡ file_of file fs)) }
     ensures errors { IfErr result (λ e. (e ≡ errors.StoreFault) ⊎ (e ≡ errors.OutOfMemory)) }
-    ensures store { ReadsOrFails V.told V.moment V.left_since V.may_leave V.faults V.lets_pass (IsErrOf result errors.StoreFault) store.old store.new }
+    ensures store { ReadsOrFails V.Store (IsErrOf result errors.StoreFault) store.old store.new }
     ensures most { MakesAtMost 2 (V.lets_pass store.old) (V.lets_pass store.new) }
 {
     let length = store.length(file)?;
@@ -34,7 +34,7 @@ fn read_file<V: Store>(
 pub fn copy<V: Store>(alloc: Global, store: &mut V) -> Result<MemoryStore, InspectError>
     ensures files { IfOk result (λ copied. IfSome (V.told store.old) (λ fs. files_of copied ≡ fs)) }
     ensures errors { IfErr result (λ e. (e ≡ errors.StoreFault) ⊎ (e ≡ errors.OutOfMemory)) }
-    ensures store { ReadsOrFails V.told V.moment V.left_since V.may_leave V.faults V.lets_pass (IsErrOf result errors.StoreFault) store.old store.new }
+    ensures store { ReadsOrFails V.Store (IsErrOf result errors.StoreFault) store.old store.new }
     ensures most { MakesAtMost 8 (V.lets_pass store.old) (V.lets_pass store.new) }
 {
     let log = read_file(alloc, store, FileName::Log)?;

@@ -1,7 +1,7 @@
 //! How much of the regions is in use.
 ghost use Rattle.std.specs.Prelude.{◌≡◌, ◌≤◌, ◌<◌, length};
 ghost use Rattle.dali_geometry.specs.Places;
-ghost use Rattle.dali_index.specs.Records.{words_of};
+ghost use Rattle.dali_access.specs.Index.Records.{words_of};
 ghost use Rattle.dali_listing.specs.Listing.{in_memory};
 ghost use Rattle.dali_inspect.specs.Counts;
 

@@ -3,10 +3,10 @@ ghost use Rattle.std.specs.Prelude.{◌≡◌, ℕ, length, IfOk, IfErr, IfSome,
 ghost use Rattle.dali_geometry.specs.Places;
 ghost use Rattle.dali_store.specs.declared.store.FileName.{FileName as Name};
 ghost use Rattle.dali_store.specs.Calls.{MakesAtMost};
-ghost use Rattle.dali_batch.specs.Batch.{IsUnformatted};
-ghost use Rattle.dali_batch.specs.Reads.{ReadsOrFails};
+ghost use Rattle.dali_log.specs.Batch.{IsUnformatted};
+ghost use Rattle.dali_log.specs.Reads.{ReadsOrFails};
 ghost use Rattle.dali_crash.specs.Checkpoints;
-ghost use Rattle.dali_traces.specs.Disks.{image_name};
+ghost use Rattle.dali_crash.specs.Disks.Disks.{image_name};
 ghost use Rattle.dali_memstore.specs.Memory.{files_of};
 ghost use Rattle.dali_listing.specs.Listing.{in_memory, IsListing};
 ghost use Rattle.dali_restart.specs.Restarting.{IsBadAnywhere};
@@ -175,7 +175,7 @@ pub fn inspect<V: Store>(alloc: Global, store: &mut V) -> Result<Inspection, Ins
         IfSome (V.told store.old) (λ fs. IsUnformatted fs.log)) }
     ensures none { OnOk result (IfSome (V.told store.old) (λ fs. IsUnformatted fs.log → ⊥)) }
     ensures long { IfErr result (λ e. e ≡ errors.TooLong → IfSome (V.told store.old) IsTooLong) }
-    ensures store { ReadsOrFails V.told V.moment V.left_since V.may_leave V.faults V.lets_pass
+    ensures store { ReadsOrFails V.Store
         (IsErrOf result errors.StoreFault) store.old store.new }
     ensures most { MakesAtMost 8 (V.lets_pass store.old) (V.lets_pass store.new) }
 {

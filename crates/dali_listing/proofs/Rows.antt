@@ -7,7 +7,7 @@ use Rattle.std.proofs.lemmas.List.{map-append}
 use Rattle.std.proofs.lemmas.List.Elements.{filter_map-append}
 use Rattle.dali_words.specs.Words.{row_of}
 use Rattle.dali_words.proofs.Rows.{row_push}
-use Rattle.dali_index.specs.Entries.{entries}
+use Rattle.dali_access.specs.Index.Entries.{entries}
 use Rattle.dali_listing.specs.declared.Listed.{Listed}
 use Rattle.dali_listing.specs.Listing.{pair_of, pairs_of}
 

@@ -6,8 +6,8 @@ use Rattle.std.proofs.lemmas.Bool.Decides.{eqb_tells}
 use Rattle.dali_lists.proofs.Options.{some_same}
 use Rattle.dali_geometry.specs.Sizes.{Sizes}
 use Rattle.dali_geometry.specs.Places.{next_index, cell_of, is_place, region_at, cell_at}
-use Rattle.dali_index.specs.Entries.{state_of, key_of, place_of, flag_of}
-use Rattle.dali_index.specs.Records.{words_of, reaches, is_reached, cell_value, pair_of, stored}
+use Rattle.dali_access.specs.Index.Entries.{state_of, key_of, place_of, flag_of}
+use Rattle.dali_access.specs.Index.Records.{words_of, reaches, is_reached, cell_value, pair_of, stored}
 
 -- ---- one step
 more : (counter end : ℕ) → counter < end → end - counter ≡ suc (end - (counter + 1))

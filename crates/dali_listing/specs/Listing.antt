@@ -12,8 +12,8 @@ use Rattle.std.specs.Cmp.Lexicographic.{slice_cmp}
 use Rattle.std.specs.List.Sorted.{IsStrictlySortedBy}
 use Rattle.dali_geometry.specs.Sizes.{Sizes}
 use Rattle.dali_region.specs.State.{RegionState}
-use Rattle.dali_index.specs.Entries.{entries}
-use Rattle.dali_index.specs.Records.{stored, records}
+use Rattle.dali_access.specs.Index.Entries.{entries}
+use Rattle.dali_access.specs.Index.Records.{stored, records}
 use Rattle.dali_listing.specs.declared.Listed.{Listed}
 
 abbrev pub in_memory : List RegionState → List (List ℕ)

@@ -7,13 +7,13 @@
 ghost use Rattle.std.specs.Prelude.{◌≡◌, ◌==◌, ◌≤◌, ◌<◌, ◌++◌, length, IfOk, OnOk};
 ghost use Rattle.std.specs.Option.{option_map, option_to_list};
 ghost use Rattle.dali_geometry.specs.Places;
-ghost use Rattle.dali_index.specs.Entries;
-ghost use Rattle.dali_index.specs.Records;
+ghost use Rattle.dali_access.specs.Index.Entries;
+ghost use Rattle.dali_access.specs.Index.Records;
 ghost use Rattle.dali_listing.specs.Listing.{in_memory, pair_of, pairs_of, in_region, IsListing};
 
+use dali_access::heap::value_words;
 use dali_bytes::OutOfMemory;
 use dali_geometry::Geometry;
-use dali_heap::value_words;
 use dali_region::Region;
 use dali_words::{Value, unpack};
 use std::alloc::Global;

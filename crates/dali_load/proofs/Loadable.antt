@@ -3,7 +3,7 @@ use Rattle.std.proofs.Common.{◌≡◌, ℕ, zero, suc, ◌*◌, ◌≤◌, Boo
 use Rattle.std.specs.Prelude.{nat_eq, codes, ◌==◌, slice_get}
 use Rattle.std.specs.List.{AllByRecursion}
 use Rattle.std.specs.Cmp.Lexicographic.{pointwise}
-use Rattle.dali_index.specs.Records.{below}
+use Rattle.dali_access.specs.Index.Records.{below}
 use Rattle.dali_listing.specs.declared.Listed.{Listed}
 use Rattle.dali_script.specs.Faults.{◌>>=◌, test}
 use Rattle.dali_script.specs.Items.{key_in, stored_in}

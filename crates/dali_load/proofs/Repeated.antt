@@ -2,7 +2,7 @@
 use Rattle.std.proofs.Common.{◌≡◌, ℕ, suc, ◌+◌, List, [], ◌∷◌, ◌++◌, sym, ◌∙◌, ap, append_assoc, append-nil, arith}
 use Rattle.std.specs.Prelude.{codes}
 use Rattle.std.proofs.lemmas.Grind.{flat_map-append}
-use Rattle.dali_index.specs.Records.{below}
+use Rattle.dali_access.specs.Index.Records.{below}
 use Rattle.dali_load.specs.Answers.{inserted}
 
 pub inserted_more : (n : ℕ) (front text : List ℕ) → text ≡ front ++ inserted n → text ++ codes "1 insert ok\n" ≡ front ++ inserted (n + 1)

@@ -3,7 +3,7 @@ use Rattle.std.proofs.Common.{◌≡◌, ℕ, zero, suc, ◌+◌, ◌*◌, ◌�
 use Rattle.std.proofs.Math.Seq.{take-add}
 use Rattle.std.proofs.lemmas.Grind.{flat_map-append}
 use Rattle.std.proofs.lemmas.List.{take_all}
-use Rattle.dali_index.specs.Records.{below}
+use Rattle.dali_access.specs.Index.Records.{below}
 use Rattle.dali_listing.specs.declared.Listed.{Listed}
 use Rattle.dali_load.specs.Scripts.{groups, group_at}
 

@@ -6,7 +6,7 @@
 --     round_of rows             the round of client 1 that makes it
 --     script_of index heap rows      the whole: a database is made, a round stores each group, and a checkpoint is made
 use Rattle.std.specs.Prelude.{ℕ, ◌+◌, ◌*◌, ◌/◌, ◌%◌, min, List, [], ◌∷◌, ◌++◌, length, map, take, drop}
-use Rattle.dali_index.specs.Records.{below}
+use Rattle.dali_access.specs.Index.Records.{below}
 use Rattle.dali_listing.specs.declared.Listed.{Listed}
 use Rattle.dali_script.specs.declared.commands.ClientCommand.{ClientCommand}
 use Rattle.dali_script.specs.declared.commands.ClientCommand.TheVariants.{Begin, Insert, Commit}

@@ -1,6 +1,6 @@
 //! What holds of rows and their script.
 ghost use Rattle.std.specs.Prelude.{◌≡◌, ◌↔◌, ◌≤◌, ℕ, List, length, flat_map};
-ghost use Rattle.dali_index.specs.Records.{below};
+ghost use Rattle.dali_access.specs.Index.Records.{below};
 ghost use Rattle.dali_listing.specs.declared.Listed.{Listed};
 ghost use Rattle.dali_script.specs.Scripts.{IsRightScript};
 ghost use Rattle.dali_load.specs.Answers.{expected, verdict_of};

@@ -1,4 +1,4 @@
-//! Tests of `dali_record` and `dali_batch`.
+//! Tests of `dali_record` and `dali_log`.
 #![tactic(auto)]
 
 #[cfg(test)]

@@ -1,6 +1,7 @@
 -- Which calls fail, and how many did.
--- Words: Counts, one_more, passed, failed, refused.
-use Rattle.std.specs.Prelude.{ℕ, ◌+◌, ◌-◌, ◌^◌, min, List, Contains}
+-- Words: Counts, passed, failed, refused.
+use Rattle.std.specs.Prelude.{ℕ, List, Contains}
+use Rattle.dali_store.specs.Faults.{one_more}
 
 -- the numbers of the calls that fail, from 0; how many calls were made, how many failed, and how many of these
 -- found no memory
@@ -13,10 +14,6 @@ pub record Counts : Type 0 where
 -- this call is among those that fail
 abbrev pub IsListed : Counts → Type 0
 IsListed c = Contains c.failing c.calls
-
--- a count stands still at its type's end
-abbrev pub one_more : ℕ → ℕ
-one_more n = min (n + 1) (2 ^ 64 - 1)
 
 abbrev pub passed : Counts → Counts
 passed c = record c { calls = one_more c.calls }

@@ -5,10 +5,6 @@ mod bytes;
 mod disk;
 mod disks;
 mod event;
-mod fuse;
 mod memory;
-mod watch;
 
-pub use fuse::Fuse;
 pub use memory::MemoryStore;
-pub use watch::{CallKind, Hook, Watch};

@@ -2,7 +2,8 @@
 ghost use Rattle.std.specs.Prelude.{◌≡◌, ◌≤◌, ◌<◌, ◌^◌, ◌⊎◌, ◌↔◌, Some, List, [], ◌∷◌, length, map, Contains, OnOk, OnErr, IfOk, IsErr, IsTrue, if◌then◌else◌, not, ◌==◌};
 ghost use Rattle.dali_store.specs.Faults.{Rose, HasCause};
 ghost use Rattle.dali_store.specs.Store.{file_of, HoldsIn, ReadsAt};
-ghost use Rattle.dali_memstore.specs.Counts.{IsListed, one_more, passed, failed, refused};
+ghost use Rattle.dali_memstore.specs.Counts.{IsListed, passed, failed, refused};
+ghost use Rattle.dali_store.specs.Faults.{one_more};
 ghost use Rattle.dali_memstore.specs.Memory.{disks, disk_of, files_of, no_files, starting_with, push, Happened, waits_of};
 ghost use Rattle.dali_memstore.specs.State.{waits};
 ghost use Rattle.dali_memstore.specs.declared.event.Event.TheVariants.{Wrote, Synced, Cut};

@@ -2,9 +2,9 @@
 use Rattle.std.proofs.Common.{◌≡◌, ℕ, List, None, ap, ◌∙◌}
 use Rattle.dali_words.specs.Words.{AgreeUnder}
 use Rattle.dali_words.specs.Effects.{carried}
-use Rattle.dali_heap.specs.Rows as heap
-use Rattle.dali_heap.proofs.Dependence as cells
-use Rattle.dali_index.proofs.Dependence as entries
+use Rattle.dali_access.specs.Heap.Rows as heap
+use Rattle.dali_access.proofs.HeapLemmas.Dependence as cells
+use Rattle.dali_access.proofs.IndexLemmas.Dependence as entries
 use Rattle.dali_record.specs.declared.operations.Op.{Op}
 use Rattle.dali_record.specs.declared.operations.Op.TheVariants.{Look, Add, KillEntry, Put, Read, Change, KillCell, FreeCell, ReviveCell, Restore, FreeEntry, ReviveEntry}
 use Rattle.dali_record.specs.declared.operations.Outcome.TheVariants.{Undone}

@@ -13,22 +13,22 @@ use Rattle.dali_words.specs.Words.{under, mask_of, AreWords}
 use Rattle.dali_words.specs.Values.{is_size, IsValue, packed, unpacked}
 use Rattle.dali_words.specs.Effects.{effect_of}
 use Rattle.dali_words.proofs.Masks.{IsIn, in_right, length-write_all}
-use Rattle.dali_heap.specs.declared.PutOutcome.{PutOutcome}
-use Rattle.dali_heap.specs.declared.PutOutcome.TheVariants.{Put as PutDone}
-use Rattle.dali_heap.specs.declared.ReadOutcome.{ReadOutcome}
-use Rattle.dali_heap.specs.declared.ReadOutcome.TheVariants.{NotLive as ReadNotLive, OtherKey as ReadOtherKey, OddLength as ReadOddLength, Value as ReadValue}
-use Rattle.dali_heap.specs.declared.ChangeOutcome.{ChangeOutcome}
-use Rattle.dali_heap.specs.declared.ChangeOutcome.TheVariants.{NotLive as ChangeNotLive, OtherKey as ChangeOtherKey, OddLength as ChangeOddLength, Changed as ChangeDone}
-use Rattle.dali_heap.specs.Cells as cell
-use Rattle.dali_heap.specs.Cells.{cells}
-use Rattle.dali_heap.specs.Rows as heap
-use Rattle.dali_index.specs.declared.LookOutcome.{LookOutcome}
-use Rattle.dali_index.specs.declared.LookOutcome.TheVariants.{Found as LookFound}
-use Rattle.dali_index.specs.declared.AddOutcome.{AddOutcome}
-use Rattle.dali_index.specs.declared.AddOutcome.TheVariants.{Added as AddDone, NoEntry as AddNoEntry}
-use Rattle.dali_index.specs.Entries as entry
-use Rattle.dali_index.specs.Entries.{entries}
-use Rattle.dali_index.specs.Rows as index
+use Rattle.dali_access.specs.declared.heap.PutOutcome.{PutOutcome}
+use Rattle.dali_access.specs.declared.heap.PutOutcome.TheVariants.{Put as PutDone}
+use Rattle.dali_access.specs.declared.heap.ReadOutcome.{ReadOutcome}
+use Rattle.dali_access.specs.declared.heap.ReadOutcome.TheVariants.{NotLive as ReadNotLive, OtherKey as ReadOtherKey, OddLength as ReadOddLength, Value as ReadValue}
+use Rattle.dali_access.specs.declared.heap.ChangeOutcome.{ChangeOutcome}
+use Rattle.dali_access.specs.declared.heap.ChangeOutcome.TheVariants.{NotLive as ChangeNotLive, OtherKey as ChangeOtherKey, OddLength as ChangeOddLength, Changed as ChangeDone}
+use Rattle.dali_access.specs.Heap.Cells as cell
+use Rattle.dali_access.specs.Heap.Cells.{cells}
+use Rattle.dali_access.specs.Heap.Rows as heap
+use Rattle.dali_access.specs.declared.index.LookOutcome.{LookOutcome}
+use Rattle.dali_access.specs.declared.index.LookOutcome.TheVariants.{Found as LookFound}
+use Rattle.dali_access.specs.declared.index.AddOutcome.{AddOutcome}
+use Rattle.dali_access.specs.declared.index.AddOutcome.TheVariants.{Added as AddDone, NoEntry as AddNoEntry}
+use Rattle.dali_access.specs.Index.Entries as entry
+use Rattle.dali_access.specs.Index.Entries.{entries}
+use Rattle.dali_access.specs.Index.Rows as index
 use Rattle.dali_record.specs.declared.operations.Op.{Op}
 use Rattle.dali_record.specs.declared.operations.Op.TheVariants.{Look, Add, KillEntry, Put, Read, Change, KillCell, FreeCell, ReviveCell, Restore, FreeEntry, ReviveEntry}
 use Rattle.dali_record.specs.declared.operations.Outcome.{Outcome}

@@ -1,7 +1,7 @@
 //! What each operation does to the words of a region.
 ghost use Rattle.std.specs.Prelude.{◌≡◌, ◌≤◌, None, []};
-ghost use Rattle.dali_heap.specs.Rows as heap;
-ghost use Rattle.dali_index.specs.Rows as index;
+ghost use Rattle.dali_access.specs.Heap.Rows as heap;
+ghost use Rattle.dali_access.specs.Index.Rows as index;
 ghost use Rattle.dali_record.specs.Spelling.{IsOperation, IsBlock};
 ghost use Rattle.dali_record.specs.Blocks.{made, pending};
 ghost use Rattle.dali_record.specs.Operations as table;
@@ -9,8 +9,8 @@ ghost use Rattle.dali_record.specs.Operations.{EffectByReads};
 
 use crate::lists::Words;
 use crate::operations::{Block, Op, Outcome, Pending, Undo};
-use dali_heap::{ChangeOutcome, PutOutcome, ReadOutcome};
-use dali_index::{AddOutcome, LookOutcome};
+use dali_access::heap::{ChangeOutcome, PutOutcome, ReadOutcome};
+use dali_access::index::{AddOutcome, LookOutcome};
 use dali_words::{Effect, KillOutcome, Value, xor_under};
 
 impl From<LookOutcome> for Outcome {
@@ -111,7 +111,7 @@ fn undo_of_kill(undo: Undo, found: KillOutcome) -> Option<Undo>
 fn look(key: u64, words: &[u64; 64]) -> (Effect, Outcome, Option<Undo>)
     ensures { result ≡ table.effect Op.Look key words.now }
 {
-    let found = dali_index::look(words, key);
+    let found = dali_access::index::look(words, key);
     (found.0, found.1.into(), None)
 }
 
@@ -119,7 +119,7 @@ fn look(key: u64, words: &[u64; 64]) -> (Effect, Outcome, Option<Undo>)
 fn add(place: u64, key: u64, words: &[u64; 64]) -> (Effect, Outcome, Option<Undo>)
     ensures { result ≡ table.effect (Op.Add place) key words.now }
 {
-    let found = dali_index::add(words, key, place);
+    let found = dali_access::index::add(words, key, place);
     let undo = match found.1 {
         AddOutcome::Added { entry } => Some(Undo::FreeEntry { entry }),
         AddOutcome::NoEntry => None,
@@ -132,7 +132,7 @@ fn kill_entry(entry: u8, key: u64, words: &[u64; 64]) -> (Effect, Outcome, Optio
     requires { entry ≤ 20 }
     ensures { result ≡ table.effect (Op.KillEntry entry) key words.now }
 {
-    let found = dali_index::kill(words, entry, key);
+    let found = dali_access::index::kill(words, entry, key);
     let undo = undo_of_kill(Undo::ReviveEntry { entry }, found.1);
     (found.0, found.1.into(), undo)
 }
@@ -141,7 +141,7 @@ fn kill_entry(entry: u8, key: u64, words: &[u64; 64]) -> (Effect, Outcome, Optio
 fn put(value: &Value, key: u64, words: &[u64; 64]) -> (Effect, Outcome, Option<Undo>)
     ensures { result ≡ table.effect (Op.Put value.now) key words.now }
 {
-    let found = dali_heap::put(words, key, value);
+    let found = dali_access::heap::put(words, key, value);
     let undo = match found.1 {
         PutOutcome::Put { cell } => Some(Undo::FreeCell { cell }),
         PutOutcome::NoCell => None,
@@ -155,7 +155,7 @@ fn read(cell: u8, key: u64, words: &[u64; 64]) -> (Effect, Outcome, Option<Undo>
     requires high { cell ≤ 7 }
     ensures { result ≡ table.effect (Op.Read cell) key words.now }
 {
-    let found = dali_heap::read(words, cell, key);
+    let found = dali_access::heap::read(words, cell, key);
     (found.0, found.1.into(), None)
 }
 
@@ -169,7 +169,7 @@ fn undo_of_change(cell: u8, words: &[u64; 64], found: ChangeOutcome) -> Option<U
         ChangeOutcome::Changed => Some(Undo::Restore {
             cell,
             length: words[8 * cell as usize + 2],
-            words: dali_heap::value_words(words, cell),
+            words: dali_access::heap::value_words(words, cell),
         }),
         _ => None,
     }
@@ -181,7 +181,7 @@ fn change(cell: u8, value: &Value, key: u64, words: &[u64; 64]) -> (Effect, Outc
     requires high { cell ≤ 7 }
     ensures { result ≡ table.effect (Op.Change cell value.now) key words.now }
 {
-    let found = dali_heap::change(words, cell, key, value);
+    let found = dali_access::heap::change(words, cell, key, value);
     let undo = undo_of_change(cell, words, found.1);
     (found.0, found.1.into(), undo)
 }
@@ -192,7 +192,7 @@ fn kill_cell(cell: u8, key: u64, words: &[u64; 64]) -> (Effect, Outcome, Option<
     requires high { cell ≤ 7 }
     ensures { result ≡ table.effect (Op.KillCell cell) key words.now }
 {
-    let found = dali_heap::kill(words, cell, key);
+    let found = dali_access::heap::kill(words, cell, key);
     let undo = undo_of_kill(Undo::ReviveCell { cell }, found.1);
     (found.0, found.1.into(), undo)
 }
@@ -203,7 +203,7 @@ fn free_cell(cell: u8, words: &[u64; 64]) -> (Effect, Outcome, Option<Undo>)
     requires high { cell ≤ 7 }
     ensures { result ≡ (heap.free words.now cell, Outcome.Undone, None) }
 {
-    (dali_heap::free(words, cell), Outcome::Undone, None)
+    (dali_access::heap::free(words, cell), Outcome::Undone, None)
 }
 
 // The revival of a cell.
@@ -212,7 +212,11 @@ fn revive_cell(cell: u8, words: &[u64; 64]) -> (Effect, Outcome, Option<Undo>)
     requires high { cell ≤ 7 }
     ensures { result ≡ (heap.revive words.now cell, Outcome.Undone, None) }
 {
-    (dali_heap::revive(words, cell), Outcome::Undone, None)
+    (
+        dali_access::heap::revive(words, cell),
+        Outcome::Undone,
+        None,
+    )
 }
 
 // The restoring of a cell.
@@ -227,7 +231,7 @@ fn restore(
     ensures { result ≡ (heap.restore words.now cell length value.now, Outcome.Undone, None) }
 {
     (
-        dali_heap::restore(words, cell, length, value),
+        dali_access::heap::restore(words, cell, length, value),
         Outcome::Undone,
         None,
     )
@@ -238,7 +242,11 @@ fn free_entry(entry: u8, words: &[u64; 64]) -> (Effect, Outcome, Option<Undo>)
     requires { entry ≤ 20 }
     ensures { result ≡ (index.free words.now entry, Outcome.Undone, None) }
 {
-    (dali_index::free(words, entry), Outcome::Undone, None)
+    (
+        dali_access::index::free(words, entry),
+        Outcome::Undone,
+        None,
+    )
 }
 
 // The revival of an entry.
@@ -246,7 +254,11 @@ fn revive_entry(entry: u8, words: &[u64; 64]) -> (Effect, Outcome, Option<Undo>)
     requires { entry ≤ 20 }
     ensures { result ≡ (index.revive words.now entry, Outcome.Undone, None) }
 {
-    (dali_index::revive(words, entry), Outcome::Undone, None)
+    (
+        dali_access::index::revive(words, entry),
+        Outcome::Undone,
+        None,
+    )
 }
 
 /// What the operation does to the words of its region, what it finds there, and what takes it back.

@@ -25,8 +25,8 @@ use Rattle.dali_resume.specs.Resumed.{damage_from, deleted_by, recover_by, rolle
 use Rattle.dali_resume.specs.Tests.{Idle, Known, is_running, known_next, may_follow, same_numbers, tells_lists}
 use Rattle.dali_resume.proofs.OnePass.{undamaged_is_plain, unfailed_is_plain}
 use Rattle.dali_resume.proofs.Through.{numbers_same}
-use Rattle.dali_taint.specs.Following.{Begins as BeginsEpoch}
-use Rattle.dali_taint.specs.Tables.{has_number}
+use Rattle.dali_redo.specs.Taint.Following.{Begins as BeginsEpoch}
+use Rattle.dali_redo.specs.Taint.Tables.{has_number}
 use Rattle.dali_redo.specs.Following.{FollowsScan, Redoes}
 use Rattle.dali_redo.specs.Redoing.{Redoing, Knows, breaks, status_at, status_by, told}
 use Rattle.dali_redo.specs.declared.error.RedoError.{RedoError}

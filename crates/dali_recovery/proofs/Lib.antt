@@ -4,3 +4,4 @@ pub mod Ordered
 pub mod Making
 pub mod Epochs
 pub mod Whole
+pub mod ReloadLemmas

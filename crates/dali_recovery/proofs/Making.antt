@@ -7,10 +7,10 @@ use Rattle.dali_record.specs.declared.records.Record.{Record}
 use Rattle.dali_record.specs.Epochs.{separates}
 use Rattle.dali_resume.specs.Resumed.{is_left_out}
 use Rattle.dali_resume.specs.Tests.{Known, allows, known_next, may_follow}
-use Rattle.dali_taint.specs.Following.{JudgedIn, judgement, scanned}
-use Rattle.dali_taint.specs.declared.taint.Taint.{Taint}
-use Rattle.dali_taint.specs.declared.taint.Judgement.{Judgement}
-use Rattle.dali_taint.specs.declared.taint.Judgement.TheVariants.{Keep, Drop}
+use Rattle.dali_redo.specs.Taint.Following.{JudgedIn, judgement, scanned}
+use Rattle.dali_redo.specs.declared.taint.taint.Taint.{Taint}
+use Rattle.dali_redo.specs.declared.taint.taint.Judgement.{Judgement}
+use Rattle.dali_redo.specs.declared.taint.taint.Judgement.TheVariants.{Keep, Drop}
 use Rattle.dali_redo.specs.Following.{Redoes}
 use Rattle.dali_redo.specs.Redoing.{Redoing, Knows, breaks, is_tested, told}
 use Rattle.dali_redo.specs.Steps.{Applies}

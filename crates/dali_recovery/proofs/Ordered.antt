@@ -12,8 +12,8 @@ use Rattle.dali_record.specs.declared.records.Record.{Record}
 use Rattle.dali_record.specs.declared.records.Record.TheVariants.{Begin, Solo, AuditBegin, AuditClean, AuditFail, Restarted}
 use Rattle.dali_record.specs.Spelling.{CanBeSpelled, ascends}
 use Rattle.dali_resume.specs.Tests.{Known, allows, is_running, known_next, next_behind}
-use Rattle.dali_taint.specs.declared.taint.Judgement.{Judgement}
-use Rattle.dali_taint.specs.declared.taint.Judgement.TheVariants.{Keep, Drop}
+use Rattle.dali_redo.specs.declared.taint.taint.Judgement.{Judgement}
+use Rattle.dali_redo.specs.declared.taint.taint.Judgement.TheVariants.{Keep, Drop}
 use Rattle.dali_redo.specs.Redoing.{Redoing, Knows, breaks, is_tested, status_at, told}
 use Rattle.dali_redo.specs.Steps.{Applies}
 use Rattle.dali_redo.specs.declared.error.RedoError.TheVariants.{Misfit as RedoMisfit}

@@ -20,8 +20,8 @@ use Rattle.dali_resume.specs.Onward.{Going, closed_image, going_next}
 use Rattle.dali_resume.specs.Tests.{Known, allows, audits_behind, failed_behind, known_next, may_follow, next_behind}
 use Rattle.dali_resume.proofs.Followed.{failed_is}
 use Rattle.dali_resume.proofs.Reached.{lists_stay}
-use Rattle.dali_taint.specs.Following.{Begins as BeginsTables}
-use Rattle.dali_taint.specs.Tables.{has_number}
+use Rattle.dali_redo.specs.Taint.Following.{Begins as BeginsTables}
+use Rattle.dali_redo.specs.Taint.Tables.{has_number}
 use Rattle.dali_redo.specs.Following.{Redoes}
 use Rattle.dali_redo.specs.Redoing.{Redoing}
 use Rattle.dali_recovery.specs.Standing.{FollowsBy, Stands, StandsOn, assumed_by, passed, undamaged}

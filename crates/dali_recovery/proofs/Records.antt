@@ -16,10 +16,10 @@ use Rattle.dali_resume.specs.Onward.{Going, going_next}
 use Rattle.dali_record.specs.Legal.{on_kind}
 use Rattle.dali_resume.specs.Resumed.{Scan as Scanned, is_left_out}
 use Rattle.dali_resume.specs.Tests.{Known, allows, audits_behind, draws_number, ends_audit, failed_behind, is_waiting, known_next, may_follow, next_behind}
-use Rattle.dali_taint.specs.Following.{scanned}
-use Rattle.dali_taint.specs.Tables.{Keeps, has_number, is_left_out as leaves_out}
-use Rattle.dali_taint.specs.declared.taint.Taint.{Taint}
-use Rattle.dali_taint.proofs.Tells.{judged_keep}
+use Rattle.dali_redo.specs.Taint.Following.{scanned}
+use Rattle.dali_redo.specs.Taint.Tables.{Keeps, has_number, is_left_out as leaves_out}
+use Rattle.dali_redo.specs.declared.taint.taint.Taint.{Taint}
+use Rattle.dali_redo.proofs.TaintLemmas.Tells.{judged_keep}
 use Rattle.dali_redo.specs.Following.{Redoes}
 use Rattle.dali_redo.specs.Redoing.{Redoing, is_left, is_of, is_tested}
 use Rattle.dali_redo.specs.Steps.{Applies}

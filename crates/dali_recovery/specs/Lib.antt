@@ -1,3 +1,4 @@
 pub mod Errors
 pub mod Standing
 pub mod Laws
+pub mod Reload

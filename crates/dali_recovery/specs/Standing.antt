@@ -42,10 +42,10 @@ use Rattle.dali_resume.specs.Laws.{is_audit_fail}
 use Rattle.dali_resume.specs.Onward.{Going, going_next, hands_on}
 use Rattle.dali_resume.specs.Resumed.{damage_from, deleted_by, rolled_by, row_undos, scan}
 use Rattle.dali_resume.specs.Tests.{Known, known_next, may_follow, next_behind, same_numbers, status_in, tells_lists}
-use Rattle.dali_taint.specs.Following.{Begins as BeginsTables, Follows as FollowsTables}
-use Rattle.dali_taint.specs.Tables.{has_number}
-use Rattle.dali_taint.specs.declared.taint.Judgement.{Judgement}
-use Rattle.dali_taint.specs.declared.taint.Judgement.TheVariants.{Keep, Drop}
+use Rattle.dali_redo.specs.Taint.Following.{Begins as BeginsTables, Follows as FollowsTables}
+use Rattle.dali_redo.specs.Taint.Tables.{has_number}
+use Rattle.dali_redo.specs.declared.taint.taint.Judgement.{Judgement}
+use Rattle.dali_redo.specs.declared.taint.taint.Judgement.TheVariants.{Keep, Drop}
 use Rattle.dali_redo.specs.Following.{Redoes}
 use Rattle.dali_redo.specs.Redoing.{Redoing, status_at}
 use Rattle.dali_redo.specs.Steps.{Applies, RollsBack, Skips}

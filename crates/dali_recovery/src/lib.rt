@@ -5,6 +5,7 @@
 mod error;
 pub mod laws;
 mod recovery;
+pub mod reload;
 mod scan;
 
 pub use error::RecoveryError;

@@ -9,7 +9,7 @@ ghost use Rattle.dali_record.specs.Files.{Files};
 ghost use Rattle.dali_record.specs.Spelling.{CanBeSpelled, ascends};
 ghost use Rattle.dali_resume.specs.Onward.{going_at};
 ghost use Rattle.dali_resume.specs.Tests.{next_behind as number_behind, same_numbers};
-ghost use Rattle.dali_taint.specs.Tables.{has_number};
+ghost use Rattle.dali_redo.specs.Taint.Tables.{has_number};
 ghost use Rattle.dali_redo.specs.Redoing.{AreUndos, MayUndo, is_tested};
 ghost use Rattle.dali_recovery.specs.Standing.{Starts, Stands, StandsOn, Scans, Takes, Fails, Makes, Refuses, Finds, FindsDeleted, Tells, TellsDamage, Begins, EndsScanned, IsRecovered, HandsLists, HandsOn, EndFails, IsOrdered, KeepsOrder, IsOrderedOut, MakesOrdered, Passes, Reopens, Ascend, passed, is_unscanned as unscanned};
 ghost use Rattle.dali_recovery.specs.declared.error.RecoveryError.TheVariants.{Misfit, OutOfMemory};

@@ -5,7 +5,7 @@ ghost use Rattle.dali_record.specs.Damage.{Damage};
 ghost use Rattle.dali_record.specs.Spelling.{ascends};
 ghost use Rattle.dali_resume.specs.Resumed.{deleted_by, scan as scan_of};
 ghost use Rattle.dali_resume.specs.Tests.{Known, same_numbers};
-ghost use Rattle.dali_taint.specs.Following.{Begins as BeginsTables};
+ghost use Rattle.dali_redo.specs.Taint.Following.{Begins as BeginsTables};
 ghost use Rattle.dali_redo.specs.Redoing.{Knows, MayUndo, breaks, is_tested};
 ghost use Rattle.dali_recovery.specs.Standing.{FollowsBy, JudgedBy, Makes, MakesOrdered, Refuses, assumed_by};
 ghost use Rattle.dali_recovery.specs.declared.error.RecoveryError.TheVariants.{OutOfMemory};
@@ -14,7 +14,7 @@ use crate::error::RecoveryError;
 use dali_geometry::Geometry;
 use dali_record::Record;
 use dali_redo::Redo;
-use dali_taint::{Judgement, Taint};
+use dali_redo::taint::{Judgement, Taint};
 use std::alloc::{AllocError, Global};
 
 /// The scan of an epoch, and the damage of it that it assumes.

@@ -10,7 +10,7 @@ use Rattle.dali_att.specs.declared.state.State.TheVariants.{Live, Dead, Cleaning
 use Rattle.dali_att.specs.Table.{Row, Table, fresh_row, with_row, with_undo, with_state, without_last, without_undos}
 use Rattle.dali_record.specs.declared.operations.Pending.{Pending}
 use Rattle.dali_resume.specs.Tests.{is_running}
-use Rattle.dali_system.proofs.Tables.{Puts, added, changed, ended}
+use Rattle.dali_runs.proofs.Tables.{Puts, added, changed, ended}
 use Rattle.dali_redo.specs.Redoing.{status_by, status_at}
 use Rattle.dali_redo.specs.Steps.{IsCleared}
 use Rattle.dali_redo.proofs.Statuses.{status_of}

@@ -17,7 +17,7 @@ use Rattle.dali_record.specs.declared.records.Record.{Record}
 use Rattle.dali_record.specs.Files.{is_restarted}
 use Rattle.dali_record.specs.Log.{txn_of}
 use Rattle.dali_resume.specs.Laws.{undos_in}
-use Rattle.dali_system.proofs.Tables.{added, changed, ended}
+use Rattle.dali_runs.proofs.Tables.{added, changed, ended}
 use Rattle.dali_redo.specs.Redoing.{status_at, is_of}
 use Rattle.dali_redo.specs.Tables.{IsCopied, AddsAll, row_held, IsHeld, Holds, IsLeast}
 

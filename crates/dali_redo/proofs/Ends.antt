@@ -21,7 +21,7 @@ use Rattle.dali_resume.specs.Resumed.{Scan, begun_by, committed_by, losers_by, r
 use Rattle.dali_resume.specs.Tests.{Known, Status, Idle, Running, Waiting, is_running, known_next, may_follow, test_next, tests}
 use Rattle.dali_resume.proofs.OnePass.{undamaged_is_plain, unfailed_is_plain}
 use Rattle.dali_resume.proofs.Reached.{none_passes}
-use Rattle.dali_taint.specs.Following.{scanned, is_begun, is_committed}
+use Rattle.dali_redo.specs.Taint.Following.{scanned, is_begun, is_committed}
 use Rattle.dali_redo.specs.Redoing.{Redoing, status_at, performed}
 use Rattle.dali_redo.specs.Steps.{RollsBack}
 use Rattle.dali_redo.specs.Following.{is_ended, FollowsScan, Redoes}

@@ -16,10 +16,10 @@ use Rattle.dali_record.proofs.Batches.{not_restarted}
 use Rattle.dali_resume.specs.Laws.{undos_in}
 use Rattle.dali_resume.specs.Resumed.{Scan, scan_step, is_marked, corrupt_after, is_left_out, kept_after}
 use Rattle.dali_resume.specs.Tests.{Known, allows, is_running, known_next}
-use Rattle.dali_taint.specs.Tables.{is_commit_of}
-use Rattle.dali_taint.specs.Following.{scanned, is_begun, is_committed}
-use Rattle.dali_taint.proofs.Steps.{may_touch, is_begun_next, is_committed_next, scanned_next}
-use Rattle.dali_taint.proofs.Orderly.{by_block, left_by, orderly_next}
+use Rattle.dali_redo.specs.Taint.Tables.{is_commit_of}
+use Rattle.dali_redo.specs.Taint.Following.{scanned, is_begun, is_committed}
+use Rattle.dali_redo.proofs.TaintLemmas.Steps.{may_touch, is_begun_next, is_committed_next, scanned_next}
+use Rattle.dali_redo.proofs.TaintLemmas.Orderly.{by_block, left_by, orderly_next}
 use Rattle.dali_redo.specs.Redoing.{Redoing, status_at, is_left, performed, either, is_of}
 use Rattle.dali_redo.specs.Steps.{Applies, Skips}
 use Rattle.dali_redo.specs.Following.{FollowsScan}

@@ -18,7 +18,7 @@ use Rattle.dali_history.proofs.Members.{fold_within}
 use Rattle.dali_history.proofs.Rising.{Up, up_from, above, not_below}
 use Rattle.dali_resume.specs.Laws.{undos_in}
 use Rattle.dali_resume.specs.Tests.{Status, Idle}
-use Rattle.dali_system.proofs.Tables.{ended}
+use Rattle.dali_runs.proofs.Tables.{ended}
 use Rattle.dali_redo.specs.Redoing.{AreUndos, status_at, either, performed_in}
 use Rattle.dali_redo.specs.Steps.{Covers, rolled, Performs}
 use Rattle.dali_redo.specs.Tables.{IsLeast}

@@ -17,9 +17,9 @@ use Rattle.dali_history.proofs.Members.{has_append}
 use Rattle.dali_resume.specs.Laws.{undos_in}
 use Rattle.dali_resume.specs.Resumed.{Scan}
 use Rattle.dali_resume.specs.Tests.{Known, Status, Idle, Running, Waiting, allows, is_running, is_waiting, may_end, known_next, status_next, draws_number}
-use Rattle.dali_taint.specs.Tables.{is_commit_of, is_end_of}
-use Rattle.dali_taint.specs.Following.{is_begun, is_committed, IsOrderly}
-use Rattle.dali_taint.proofs.Steps.{was, is_begun_next, is_committed_next}
+use Rattle.dali_redo.specs.Taint.Tables.{is_commit_of, is_end_of}
+use Rattle.dali_redo.specs.Taint.Following.{is_begun, is_committed, IsOrderly}
+use Rattle.dali_redo.proofs.TaintLemmas.Steps.{was, is_begun_next, is_committed_next}
 use Rattle.dali_redo.specs.Following.{is_ended, IsSettled}
 
 -- ---- which record it is

@@ -20,8 +20,8 @@ use Rattle.dali_history.proofs.Rising.{Up, up_from, not_below}
 use Rattle.dali_resume.specs.Laws.{undos_in}
 use Rattle.dali_resume.specs.Resumed.{scan, scan_start, row_undos, row_committed, begun_by, committed_by}
 use Rattle.dali_resume.specs.Tests.{Known, Status, Idle, Running, Waiting, is_running, is_waiting, known_next, status_in}
-use Rattle.dali_taint.specs.Following.{is_begun, is_committed, IsOrderly, Begins}
-use Rattle.dali_taint.proofs.Starts.{txns, committed_there, no_row}
+use Rattle.dali_redo.specs.Taint.Following.{is_begun, is_committed, IsOrderly, Begins}
+use Rattle.dali_redo.proofs.TaintLemmas.Starts.{txns, committed_there, no_row}
 use Rattle.dali_redo.specs.Redoing.{Redoing, Knows, status_by, status_at, is_left}
 use Rattle.dali_redo.specs.Following.{is_ended, IsSettled, FollowsScan, Redoes}
 use Rattle.dali_redo.specs.Laws.{StartsRedo, EndsEpoch}

@@ -18,7 +18,7 @@ use Rattle.dali_record.specs.declared.records.Record.TheVariants.{Begin, Forward
 use Rattle.dali_record.specs.Files.{is_restarted}
 use Rattle.dali_record.specs.Log.{drop_last}
 use Rattle.dali_resume.specs.Tests.{Status, Idle, Running, Waiting, is_running, status_next}
-use Rattle.dali_system.proofs.Tables.{Puts, with_undos, added, changed, ended, dropped}
+use Rattle.dali_runs.proofs.Tables.{Puts, with_undos, added, changed, ended, dropped}
 use Rattle.dali_redo.specs.Redoing.{status_by, status_at, is_of}
 use Rattle.dali_redo.specs.Steps.{Advances}
 

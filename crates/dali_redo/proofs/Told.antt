@@ -11,7 +11,7 @@ use Rattle.dali_record.specs.declared.operations.Pending.{Pending}
 use Rattle.dali_record.specs.declared.records.Record.{Record}
 use Rattle.dali_record.specs.declared.records.Record.TheVariants.{Format, Begin, Forward, Done, Commit, Ended, Solo, AuditBegin, AuditClean, AuditFail, Restarted, Back}
 use Rattle.dali_record.specs.Legal.{is_none_left, on_kind}
-use Rattle.dali_system.proofs.Tables.{last_same}
+use Rattle.dali_runs.proofs.Tables.{last_same}
 use Rattle.dali_resume.specs.Laws.{undos_in}
 use Rattle.dali_resume.specs.Tests.{Known, Status, Idle, Running, Waiting, is_running, is_waiting, may_end, may_take_back, undoes_last, next_behind, draws_number}
 use Rattle.dali_redo.specs.Redoing.{Redoing, Knows, status_by, status_at, told_by, told, breaks}

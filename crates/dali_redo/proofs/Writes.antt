@@ -2,8 +2,8 @@
 use Rattle.std.proofs.Common.{◌≡◌, ℕ, zero, suc, ◌+◌, ◌/◌, ◌<◌, ◌≤◌, Bool, true, false, cond, List, [], ◌∷◌, ◌++◌, take, drop, length, refl, ap, ◌∙◌, arith, get_or, set}
 use Rattle.std.specs.Prelude.{map}
 use Rattle.dali_words.specs.Words.{write_under, has_first}
-use Rattle.dali_heap.specs.Cells as cell
-use Rattle.dali_index.specs.Entries as entry
+use Rattle.dali_access.specs.Heap.Cells as cell
+use Rattle.dali_access.specs.Index.Entries as entry
 
 -- no words for the set
 pub write_none : (m : ℕ) (ws : List ℕ) → write_under m [] ws ≡ ws

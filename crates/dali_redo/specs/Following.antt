@@ -10,7 +10,7 @@ use Rattle.dali_record.specs.Settled.{redo_all}
 use Rattle.dali_resume.specs.Laws.{undos_in}
 use Rattle.dali_resume.specs.Resumed.{Scan}
 use Rattle.dali_resume.specs.Tests.{Known, is_running, is_waiting}
-use Rattle.dali_taint.specs.Following.{scanned, is_begun, is_committed, IsOrderly}
+use Rattle.dali_redo.specs.Taint.Following.{scanned, is_begun, is_committed, IsOrderly}
 use Rattle.dali_redo.specs.Redoing.{Redoing, Knows, is_left, performed}
 
 abbrev pub is_ended : Known → ℕ → Bool

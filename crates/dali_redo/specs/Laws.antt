@@ -22,7 +22,7 @@ use Rattle.dali_history.specs.Recovered.{freed}
 use Rattle.dali_resume.specs.Laws.{is_audit_fail}
 use Rattle.dali_resume.specs.Resumed.{damage_from, is_left_out, rolled_by, recover_by}
 use Rattle.dali_resume.specs.Tests.{Known, allows, is_running, known_next, may_follow, tests}
-use Rattle.dali_taint.specs.Following.{scanned, Begins}
+use Rattle.dali_redo.specs.Taint.Following.{scanned, Begins}
 use Rattle.dali_redo.specs.Redoing.{Redoing, Knows, status_at, is_tested, breaks, MayUndo}
 use Rattle.dali_redo.specs.Steps.{Applies, Skips, RollsBack}
 use Rattle.dali_redo.specs.Following.{Redoes}

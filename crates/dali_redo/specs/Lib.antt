@@ -4,3 +4,4 @@ pub mod Tables
 pub mod Fields
 pub mod Following
 pub mod Laws
+pub mod Taint

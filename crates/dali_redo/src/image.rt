@@ -1,7 +1,7 @@
 //! The words of all regions.
 ghost use Rattle.std.specs.Prelude.{◌≡◌, ◌≤◌, All, map, fold, length, slice_set};
-ghost use Rattle.dali_heap.specs.Cells as cell;
-ghost use Rattle.dali_index.specs.Entries as entry;
+ghost use Rattle.dali_access.specs.Heap.Cells as cell;
+ghost use Rattle.dali_access.specs.Index.Entries as entry;
 ghost use Rattle.dali_record.specs.Spelling.{IsUndo};
 ghost use Rattle.dali_record.specs.Settled.{redo, words_in};
 ghost use Rattle.dali_record.specs.Blocks.{rewritten};

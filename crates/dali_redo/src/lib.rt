@@ -8,6 +8,7 @@ pub mod laws;
 mod redo;
 mod rules;
 mod tables;
+pub mod taint;
 mod words;
 
 pub use error::RedoError;

@@ -1,8 +1,8 @@
 //! The words of one region.
 ghost use Rattle.std.specs.Prelude.{◌≡◌, fold, map};
 ghost use Rattle.dali_words.specs.Words.{write_under};
-ghost use Rattle.dali_heap.specs.Cells as cell;
-ghost use Rattle.dali_index.specs.Entries as entry;
+ghost use Rattle.dali_access.specs.Heap.Cells as cell;
+ghost use Rattle.dali_access.specs.Index.Entries as entry;
 ghost use Rattle.dali_record.specs.Spelling.{IsUndo};
 ghost use Rattle.dali_record.specs.Operations.{effect as effect_of, undo_op as operation_of};
 ghost use Rattle.dali_history.specs.Recovered.{free_word as freed_word};

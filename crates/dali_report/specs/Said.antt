@@ -10,8 +10,8 @@ use Rattle.dali_record.specs.declared.records.Call.{Call}
 use Rattle.dali_record.specs.declared.records.Call.TheVariants as call
 use Rattle.dali_record.specs.declared.records.Answer.{Answer}
 use Rattle.dali_record.specs.declared.records.Answer.TheVariants as answer
-use Rattle.dali_system.specs.declared.causes.Cause.{Cause}
-use Rattle.dali_system.specs.declared.causes.Cause.TheVariants as cause
+use Rattle.dali_runs.specs.declared.causes.Cause.{Cause}
+use Rattle.dali_runs.specs.declared.causes.Cause.TheVariants as cause
 use Rattle.dali_script.specs.declared.names.Name.{Name}
 use Rattle.dali_script.specs.declared.names.Name.TheVariants as name
 use Rattle.dali_script.specs.Names.{text_of as name_text}

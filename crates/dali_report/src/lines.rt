@@ -1,6 +1,6 @@
 //! The lines.
 ghost use Rattle.std.specs.Prelude.{◌≡◌, ◌++◌, OnOk, OnErr, take};
-ghost use Rattle.dali_clients.specs.Told.{said_of};
+ghost use Rattle.dali_transcripts.specs.Clients.Told.{said_of};
 ghost use Rattle.dali_report.specs.Texts.{IsFront};
 ghost use Rattle.dali_report.specs.Lines.{line_text, text_of, alone_text, client_text};
 
@@ -9,7 +9,7 @@ use crate::leaves::{
 };
 use crate::printed::Line;
 use crate::said::{put_said, put_stop};
-use dali_clients::Line as ClientLine;
+use dali_transcripts::clients::Line as ClientLine;
 use std::alloc::AllocError;
 
 fn put_line(line: &Line, into: &mut Vec<u8>) -> Result<(), AllocError>

@@ -1,8 +1,8 @@
 //! What the program prints.
 
 use dali_record::Numbers;
+use dali_runs::Cause;
 use dali_script::Name;
-use dali_system::Cause;
 use dali_words::Value;
 
 /// A line that no client says.

@@ -1,7 +1,7 @@
 //! What a client says, without its number.
 ghost use Rattle.std.specs.Prelude.{◌≡◌, ◌++◌, OnOk, OnErr};
 ghost use Rattle.dali_script.specs.Names.{text_of as name_text};
-ghost use Rattle.dali_clients.specs.Told.{act_of, reason_of, said_of};
+ghost use Rattle.dali_transcripts.specs.Clients.Told.{act_of, reason_of, said_of};
 ghost use Rattle.dali_report.specs.Texts.{IsFront};
 ghost use Rattle.dali_report.specs.Said.{call_name, act_name, answer_text, stop_text, reason_text, clean_or_failed, said_text};
 
@@ -9,10 +9,10 @@ use crate::leaves::{
     put_number, put_text, put_with_hex, put_with_name, put_with_number, put_with_regions,
     put_with_value,
 };
-use dali_clients::{Command, Line, Why};
 use dali_record::{Answer, Call, Regions};
+use dali_runs::Cause;
 use dali_script::Name;
-use dali_system::Cause;
+use dali_transcripts::clients::{Command, Line, Why};
 use std::alloc::AllocError;
 
 fn name_of_call(call: &Call) -> Name

@@ -2,9 +2,9 @@
 use Rattle.std.proofs.Common.{◌≡◌, ◌⊎◌, inl, inr, ℕ, sym, ◌∙◌}
 use Rattle.dali_store.specs.declared.store.FileName.{FileName}
 use Rattle.dali_store.specs.Store.{Files as Disk}
-use Rattle.dali_traces.specs.Disks.{head_of}
+use Rattle.dali_crash.specs.Disks.Disks.{head_of}
 use Rattle.dali_image.specs.Laws.{header_of, table_of}
-use Rattle.dali_reload.proofs.OnePlace.{one_bad_place}
+use Rattle.dali_recovery.proofs.ReloadLemmas.OnePlace.{one_bad_place}
 use Rattle.dali_restart.specs.Opening.{IsBadStore}
 use Rattle.dali_restart.specs.Laws.{IsBadOnce}
 use Rattle.dali_restart.specs.Restarting.{IsBadTail}

@@ -20,14 +20,15 @@ use Rattle.dali_record.specs.Legal.{sizes_of}
 use Rattle.dali_record.specs.Spelling.{CanBeSpelled, words_bytes}
 use Rattle.dali_record.proofs.Lengths.{words_are_8}
 use Rattle.dali_store.specs.Store.{Files as Disk}
-use Rattle.dali_batch.specs.Batch.{IsBody, batch, batches}
-use Rattle.dali_batch.specs.Log.{AreSpelled, HasFormat, LogOf, bodies, body_bytes}
-use Rattle.dali_batch.specs.Stream.{IsReadFrom, Reading}
-use Rattle.dali_batch.proofs.Fronts.{empty_run}
+use Rattle.dali_log.specs.Batch.{IsBody, batch, batches}
+use Rattle.dali_log.specs.Log.{AreSpelled, HasFormat, LogOf, bodies, body_bytes}
+use Rattle.dali_log.specs.Stream.{IsReadFrom, Reading}
+use Rattle.dali_log.proofs.Fronts.{empty_run}
 use Rattle.dali_crash.specs.Checkpoints.{Head, side_of}
-use Rattle.dali_traces.specs.Disks.{IsAnchor, IsImageOf, Spells, head_of, header_bytes, sizes_in, table_bytes, unchecked}
-use Rattle.dali_traces.specs.Places.{place_of}
-use Rattle.dali_traces.proofs.Bridges.{ends_at}
+use Rattle.dali_crash.specs.Disks.Disks.{IsImageOf, Spells, head_of, header_bytes, sizes_in, table_bytes, unchecked}
+use Rattle.dali_log.specs.Anchors.{IsAnchor}
+use Rattle.dali_crash.specs.Disks.Places.{place_of}
+use Rattle.dali_crash.proofs.DisksLemmas.Bridges.{ends_at}
 use Rattle.dali_image.specs.Decoding.{table_in}
 use Rattle.dali_image.specs.Headers.{bad_header}
 use Rattle.dali_image.specs.Laws.{CanBeTable, header_of, table_of}
@@ -37,12 +38,12 @@ use Rattle.dali_image.specs.declared.header.Header.{Header}
 use Rattle.dali_image.proofs.Again.{tables_are_read_again}
 use Rattle.dali_image.proofs.OneHeader.{heading_is_64}
 use Rattle.dali_resume.specs.Onward.{going_at}
-use Rattle.dali_again.specs.Found.{FindsIt}
-use Rattle.dali_renewal.proofs.Images.{of_side}
+use Rattle.dali_resume.specs.Interrupted.Found.{FindsIt}
+use Rattle.dali_restart.proofs.RenewalLemmas.Images.{of_side}
 use Rattle.dali_recovery.specs.Standing.{Stands, Starts}
 use Rattle.dali_recovery.specs.declared.recovery.Recovery.{Recovery}
 use Rattle.dali_recovery.proofs.Whole.{begins_behind}
-use Rattle.dali_reload.specs.Reading.{IsAtImage}
+use Rattle.dali_recovery.specs.Reload.Reading.{IsAtImage}
 use Rattle.dali_restart.specs.Opening.{BeginsWith, IsImageIn, IsInRange, IsOpened, IsNoImage, expected, file_in}
 use Rattle.dali_restart.specs.Laws.{IsOneOpening}
 use Rattle.dali_restart.specs.Restarting.{BeginsAt}

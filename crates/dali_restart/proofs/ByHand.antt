@@ -5,7 +5,7 @@ use Rattle.std.proofs.lemmas.List.{append-nil, length-take-le}
 use Rattle.std.proofs.lemmas.List.Sums.{sum_by-cons}
 use Rattle.dali_record.specs.declared.records.Record.{Record}
 use Rattle.dali_record.specs.Files.{Files, batch_length}
-use Rattle.dali_system.specs.Run.{log_in}
+use Rattle.dali_runs.specs.Run.{log_in}
 use Rattle.dali_restart.specs.Laws.{FitIsFound, FitsLawful}
 
 -- the image stands behind a batch, since a record stands before it

@@ -13,7 +13,7 @@ use Rattle.dali_record.specs.declared.operations.Undo.TheVariants.{FreeCell, Rev
 use Rattle.dali_record.specs.declared.operations.Pending.{Pending}
 use Rattle.dali_record.specs.Spelling.{flag_bytes, words_bytes, undo_bytes, IsCell, IsEntry, IsUndo}
 use Rattle.dali_record.specs.Files.{Row}
-use Rattle.dali_traces.specs.Disks.{pending_bytes, row_bytes, table_bytes, IsPendingIn, IsRowIn}
+use Rattle.dali_crash.specs.Disks.Disks.{pending_bytes, row_bytes, table_bytes, IsPendingIn, IsRowIn}
 
 abbrev AreBytes : List ℕ → Type 0
 AreBytes bs = AllByRecursion (λ b. b < 256) bs

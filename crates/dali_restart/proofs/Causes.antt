@@ -2,8 +2,8 @@
 use Rattle.std.proofs.Common.{◌≡◌, ℕ, refl, ap, ◌∙◌}
 use Rattle.dali_store.specs.declared.store.FileName.{FileName}
 use Rattle.dali_store.specs.declared.store.FileName.TheVariants.{Log}
-use Rattle.dali_batch.specs.declared.error.LogError.{LogError}
-use Rattle.dali_batch.specs.declared.error.LogError.TheVariants as logs
+use Rattle.dali_log.specs.declared.error.LogError.{LogError}
+use Rattle.dali_log.specs.declared.error.LogError.TheVariants as logs
 use Rattle.dali_image.specs.declared.error.ImageError.{ImageError}
 use Rattle.dali_image.specs.declared.error.ImageError.TheVariants as images
 use Rattle.dali_restart.specs.declared.error.RestartError.TheVariants as errors

@@ -4,17 +4,17 @@ use Rattle.std.specs.Prelude.{IfOk, OnOk, if◌then◌else◌}
 use Rattle.std.proofs.Math.Nat.{lt_of_not-le}
 use Rattle.dali_lists.proofs.Options.{if_some_then}
 use Rattle.dali_store.specs.Store.{Files as Disk}
-use Rattle.dali_batch.specs.Appending.{next_place}
-use Rattle.dali_batch.specs.Batch.{IsClosedAt, batch, batches}
-use Rattle.dali_batch.proofs.Bytes.{length-batch}
-use Rattle.dali_traces.specs.Anchors.{AreAnchored}
-use Rattle.dali_traces.specs.Disks.{IsAnchor}
-use Rattle.dali_reload.specs.declared.counts.BeforeRestart.{BeforeRestart}
-use Rattle.dali_renewal.specs.Logged.{restart_bodies, restart_body, restart_length}
-use Rattle.dali_renewal.specs.Renewed.{AreReady, Renews, Stops, end_of}
-use Rattle.dali_renewal.specs.declared.renewing.Standing.{Standing}
-use Rattle.dali_renewal.proofs.Bodies.{body_length, one_body}
-use Rattle.dali_rise.specs.declared.rising.Resting.{Resting}
+use Rattle.dali_log.specs.Appending.{next_place}
+use Rattle.dali_log.specs.Batch.{IsClosedAt, batch, batches}
+use Rattle.dali_log.proofs.Bytes.{length-batch}
+use Rattle.dali_log.specs.Anchors.{AreAnchored}
+use Rattle.dali_log.specs.Anchors.{IsAnchor}
+use Rattle.dali_recovery.specs.declared.reload.counts.BeforeRestart.{BeforeRestart}
+use Rattle.dali_restart.specs.Renewal.Logged.{restart_bodies, restart_body, restart_length}
+use Rattle.dali_restart.specs.Renewal.Renewed.{AreReady, Renews, Stops, end_of}
+use Rattle.dali_restart.specs.declared.renewal.renewing.Standing.{Standing}
+use Rattle.dali_restart.proofs.RenewalLemmas.Bodies.{body_length, one_body}
+use Rattle.dali_restart.specs.declared.rise.rising.Resting.{Resting}
 use Rattle.dali_restart.specs.declared.restarting.Due.TheVariants as dues
 use Rattle.dali_restart.specs.declared.restarting.Found.{Found}
 use Rattle.dali_restart.specs.Deciding.{IsInOrder, IsReadIn, IsSmallRest, IsWritten, LogsRecord, WritesImage, at_end, before, due_by, due_of, resting_of}

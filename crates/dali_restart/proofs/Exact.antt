@@ -12,15 +12,15 @@ use Rattle.dali_bytes.specs.Fields.{number32}
 use Rattle.dali_bytes.proofs.Numbers.{length-number32}
 use Rattle.dali_store.specs.declared.store.FileName.{FileName}
 use Rattle.dali_store.specs.Store.{Files as Disk}
-use Rattle.dali_batch.specs.Batch.{batch}
-use Rattle.dali_batch.specs.Finding.{BatchAt, IsBad}
-use Rattle.dali_batch.specs.Log.{HasNoFormat, IsBadFirst, body_bytes}
-use Rattle.dali_batch.specs.Stream.{Reading, IsWindow}
-use Rattle.dali_batch.proofs.Finds.{if_some_two, if_some_same}
-use Rattle.dali_batch.proofs.Fronts.{bad_of_first}
-use Rattle.dali_batch.proofs.Unique.{same_batch, same_records, one_place}
-use Rattle.dali_traces.specs.Disks.{IsAnchor}
-use Rattle.dali_traces.proofs.Once.{anchor_once}
+use Rattle.dali_log.specs.Batch.{batch}
+use Rattle.dali_log.specs.Finding.{BatchAt, IsBad}
+use Rattle.dali_log.specs.Log.{HasNoFormat, IsBadFirst, body_bytes}
+use Rattle.dali_log.specs.Stream.{Reading, IsWindow}
+use Rattle.dali_log.proofs.Finds.{if_some_two, if_some_same}
+use Rattle.dali_log.proofs.Fronts.{bad_of_first}
+use Rattle.dali_log.proofs.Unique.{same_batch, same_records, one_place}
+use Rattle.dali_log.specs.Anchors.{IsAnchor}
+use Rattle.dali_crash.proofs.DisksLemmas.Once.{anchor_once}
 use Rattle.dali_image.specs.Headers.{NoHeading, bad_header}
 use Rattle.dali_image.specs.Reading.{NoAnchor, ReadsTable, NoTable}
 use Rattle.dali_image.specs.declared.header.Header.{Header}

@@ -21,13 +21,14 @@ use Rattle.dali_record.specs.Legal.{sizes_of}
 use Rattle.dali_record.specs.Files.{Files}
 use Rattle.dali_store.specs.declared.store.FileName.{FileName}
 use Rattle.dali_store.specs.Store.{Files as Disk}
-use Rattle.dali_batch.specs.Batch.{batch, batches, IsUnformatted}
-use Rattle.dali_batch.specs.Log.{IsRun, LogOf, HasFormat, body_bytes, bodies}
-use Rattle.dali_batch.specs.Stream.{Reading, IsReadFrom, IsWindow}
-use Rattle.dali_batch.proofs.Finds.{if_some_two, if_some_three, if_some_same}
-use Rattle.dali_batch.proofs.Unique.{same_batch, same_records}
+use Rattle.dali_log.specs.Batch.{batch, batches, IsUnformatted}
+use Rattle.dali_log.specs.Log.{IsRun, LogOf, HasFormat, body_bytes, bodies}
+use Rattle.dali_log.specs.Stream.{Reading, IsReadFrom, IsWindow}
+use Rattle.dali_log.proofs.Finds.{if_some_two, if_some_three, if_some_same}
+use Rattle.dali_log.proofs.Unique.{same_batch, same_records}
 use Rattle.dali_crash.specs.Checkpoints.{Head, side_of}
-use Rattle.dali_traces.specs.Disks.{IsAnchor, IsImageOf, image_file, image_name, header_bytes, table_bytes, unchecked}
+use Rattle.dali_crash.specs.Disks.Disks.{IsImageOf, image_file, image_name, header_bytes, table_bytes, unchecked}
+use Rattle.dali_log.specs.Anchors.{IsAnchor}
 use Rattle.dali_image.specs.Headers.{HasHeading, bad_header, IsWanted}
 use Rattle.dali_image.specs.Rows.{AreUndos}
 use Rattle.dali_image.specs.Reading.{NoTable}
@@ -35,7 +36,7 @@ use Rattle.dali_image.specs.Laws.{header_of, IsHeader, IsPassed}
 use Rattle.dali_image.proofs.Passed.{what_passes, wanted}
 use Rattle.dali_image.specs.declared.header.Header.{Header}
 use Rattle.dali_image.specs.declared.header.Expected.{Expected}
-use Rattle.dali_renewal.proofs.Images.{of_side}
+use Rattle.dali_restart.proofs.RenewalLemmas.Images.{of_side}
 use Rattle.dali_restart.specs.Opening.{BeginsWith, BadImageAt, IsImageIn, IsInRange, IsNoImage, IsBadStore, IsBadLog, IsBadAnchor, IsBadImage, file_in, expected}
 use Rattle.dali_restart.specs.Laws.{WhatOpensIsSpelled, IsSpelledBy}
 

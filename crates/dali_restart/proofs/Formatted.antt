@@ -15,29 +15,30 @@ use Rattle.dali_region.specs.State.{RegionState, loaded}
 use Rattle.dali_region.specs.Answers.{is_dirty}
 use Rattle.dali_store.specs.Store.{Files as Disk, LeavesOnly}
 use Rattle.dali_store.proofs.Moments.{moved, joins, if_some_with}
-use Rattle.dali_batch.proofs.Finds.{if_some_two, if_some_same}
-use Rattle.dali_batch.specs.Reads.{OnlyReads}
-use Rattle.dali_batch.specs.Appending.{next_place}
-use Rattle.dali_batch.specs.Batch.{batch, IsClosedAt, IsUnformatted}
-use Rattle.dali_batch.specs.Formatting.{FormatLeaves, IsFormattedBy}
-use Rattle.dali_system.specs.State.{VaultState}
-use Rattle.dali_system.specs.Loads.{IsAtRest}
-use Rattle.dali_system.proofs.WholeSteps.{load_is_whole}
-use Rattle.dali_system.proofs.Loads.{format_rests}
-use Rattle.dali_core.specs.Served.{Served}
+use Rattle.dali_store.specs.declared.store.Store.{Ghosts}
+use Rattle.dali_log.proofs.Finds.{if_some_two, if_some_same}
+use Rattle.dali_log.specs.Reads.{OnlyReads}
+use Rattle.dali_log.specs.Appending.{next_place}
+use Rattle.dali_log.specs.Batch.{batch, IsClosedAt, IsUnformatted}
+use Rattle.dali_log.specs.Formatting.{FormatLeaves, IsFormattedBy}
+use Rattle.dali_runs.specs.State.{VaultState}
+use Rattle.dali_runs.specs.Loads.{IsAtRest}
+use Rattle.dali_runs.proofs.WholeSteps.{load_is_whole}
+use Rattle.dali_runs.proofs.Loads.{format_rests}
+use Rattle.dali_system.specs.Served.{Served}
 use Rattle.dali_crash.specs.Traces.{Start, start_point, MayRun}
 use Rattle.dali_crash.proofs.Courses.{format_is_history}
 use Rattle.dali_crash.proofs.Starts.{lawful}
 use Rattle.dali_crash.proofs.StoreStarts.{all_dirty}
 use Rattle.dali_crash.proofs.Traces.{bare_start_runs}
-use Rattle.dali_traces.specs.Anchors.{AreAnchored}
-use Rattle.dali_traces.specs.Bridges.{IsNewVault}
-use Rattle.dali_traces.proofs.Bridges.{format_starts}
-use Rattle.dali_traces.proofs.NewFiles.{start_reads}
-use Rattle.dali_vault.specs.Vaulted.{Vaulted}
-use Rattle.dali_vault.specs.Stepped.{vault_in}
-use Rattle.dali_steps.specs.At.{IsAt}
-use Rattle.dali_whole.specs.Cores.{IsWholeCore}
+use Rattle.dali_log.specs.Anchors.{AreAnchored}
+use Rattle.dali_crash.specs.Disks.Bridges.{IsNewVault}
+use Rattle.dali_crash.proofs.DisksLemmas.Bridges.{format_starts}
+use Rattle.dali_crash.proofs.DisksLemmas.NewFiles.{start_reads}
+use Rattle.dali_core.specs.Vault.Vaulted.{Vaulted}
+use Rattle.dali_core.specs.Vault.Stepped.{vault_in}
+use Rattle.dali_core.specs.Steps.At.{IsAt}
+use Rattle.dali_core.specs.Cores.{IsWholeCore}
 use Rattle.dali_restart.specs.Formatted.{first_record, first_body, formatted_regions, first_system, IsNewCore, MakesAtAnyMoment, first_at, RunBegins}
 
 -- ---- the first batch
@@ -111,13 +112,13 @@ module _ {V : Type 0} (told : V → Option Disk) where
         files = every (told v.store) _ (λ fs side r g at clean. let dirty : is_dirty g side ≡ true = all_dirty (formatted_image s) r g side at in absurd (cc));
       }
 
-module _ {V : Type 0} (told : V → Option Disk) (may_leave : V → Disk → Type 0) (faults : V → ℕ) where
+module _ {V : Type 0} (means : Ghosts V) where
   pub run_begins :
       (s : Sizes) (limit : ℕ) (gs : List RegionState) (y : Served) (store : V) (end : ℕ) (v : Vaulted V) (old : V) → IsNewCore s limit gs y v
       → v ≡ record { store = store; end = end; flushed = 0; current = 0; stopped = false } → limit ≤ 268435456
-      → CanBeSpelled (first_record s) → is_some (told store) ≡ is_some (told old)
-      → IfSome (told old) (λ _. (c : Disk) → may_leave store c → IsFormattedBy (may_leave old) (first_body s) c)
-      → RunBegins told may_leave faults s limit gs y.state v
+      → CanBeSpelled (first_record s) → is_some (means.told store) ≡ is_some (means.told old)
+      → IfSome (means.told old) (λ _. (c : Disk) → means.may_leave store c → IsFormattedBy (means.may_leave old) (first_body s) c)
+      → RunBegins means s limit gs y.state v
   run_begins s limit gs y store end v old new made fits can told_then left words heads synced = record {
     regions = sym new.regions;
     system = ap (λ (z : Served). z.state) (sym new.system);
@@ -126,10 +127,10 @@ module _ {V : Type 0} (told : V → Option Disk) (may_leave : V → Disk → Typ
   }
     where
       start : Start
-      start = first_at told may_leave faults s limit v words heads synced
+      start = first_at means s limit v words heads synced
 
       u : VaultState
-      u = vault_in faults (faults v.store) v
+      u = vault_in means.faults (means.faults v.store) v
 
       rests : IsAtRest s (first_record s ∷ []) (passes rules_start (first_record s))
       rests = format_rests s can
@@ -161,18 +162,18 @@ module _ {V : Type 0} (told : V → Option Disk) (may_leave : V → Disk → Typ
       here : store ≡ v.store
       here = sym (ap (λ (w : Vaulted V). w.store) made)
 
-      tells : is_some (told v.store) ≡ is_some (told old)
-      tells = subst (λ (w : V). is_some (told w) ≡ is_some (told old)) here told_then
+      tells : is_some (means.told v.store) ≡ is_some (means.told old)
+      tells = subst (λ (w : V). is_some (means.told w) ≡ is_some (means.told old)) here told_then
 
-      formatted : IfSome (told old) (λ _. (c : Disk) → may_leave v.store c → IsFormattedBy (may_leave old) (first_body s) c)
-      formatted = subst (λ (w : V). IfSome (told old) (λ _. (c : Disk) → may_leave w c → IsFormattedBy (may_leave old) (first_body s) c)) here left
+      formatted : IfSome (means.told old) (λ _. (c : Disk) → means.may_leave v.store c → IsFormattedBy (means.may_leave old) (first_body s) c)
+      formatted = subst (λ (w : V). IfSome (means.told old) (λ _. (c : Disk) → means.may_leave w c → IsFormattedBy (means.may_leave old) (first_body s) c)) here left
 
-      at : IsAt told may_leave faults start ((first_record s ∷ []) ∷ []) (start_point start) v
+      at : IsAt means start ((first_record s ∷ []) ∷ []) (start_point start) v
       at = record {
         run = bare_start_runs start (lawful (first_record s ∷ []) (format_is_history s can)) rests.rules refl fits may_run;
         vault = record { stopped = refl; end = refl; flushed = refl; current = refl; counted = refl };
-        files = moved _ (told old) (told v.store) tells formatted (λ all. format_starts (may_leave old) (may_leave v.store) s.index s.heap (passes rules_start (first_record s)) limit u words heads synced can rests.rules fits is_new all);
-        reads = λ runs. every (told v.store) _ (λ fs. start_reads start fs);
+        files = moved _ (means.told old) (means.told v.store) tells formatted (λ all. format_starts (means.may_leave old) (means.may_leave v.store) s.index s.heap (passes rules_start (first_record s)) limit u words heads synced can rests.rules fits is_new all);
+        reads = λ runs. every (means.told v.store) _ (λ fs. start_reads start fs);
       }
 
 -- ---- its vault

@@ -8,22 +8,23 @@ use Rattle.dali_region.specs.State.{RegionState, loaded}
 use Rattle.dali_store.specs.Store.{Files as Disk, LeavesOnly, Only}
 use Rattle.dali_store.specs.Calls.{PassesFewer}
 use Rattle.dali_store.proofs.Moments.{joins, weaker}
-use Rattle.dali_batch.proofs.Finds.{if_some_any, if_some_same, if_some_two}
-use Rattle.dali_batch.specs.Batch.{IsUnformatted}
-use Rattle.dali_batch.specs.Reads.{OnlyReads}
-use Rattle.dali_system.specs.Images.{Told}
-use Rattle.dali_core.specs.Served.{Served}
+use Rattle.dali_store.specs.declared.store.Store.{Ghosts}
+use Rattle.dali_log.proofs.Finds.{if_some_any, if_some_same, if_some_two}
+use Rattle.dali_log.specs.Batch.{IsUnformatted}
+use Rattle.dali_log.specs.Reads.{OnlyReads}
+use Rattle.dali_runs.specs.Images.{Told}
+use Rattle.dali_system.specs.Served.{Served}
 use Rattle.dali_crash.specs.Checkpoints.{Head}
 use Rattle.dali_crash.specs.Traces.{MayRun, StartsAt}
-use Rattle.dali_traces.specs.Disks.{AllSpell, Spells}
-use Rattle.dali_vault.specs.Vaulted.{Vaulted}
-use Rattle.dali_vault.specs.Stepped.{vault_in}
-use Rattle.dali_vault.proofs.Stepped.{begins_right}
-use Rattle.dali_again.specs.Found.{FindsIt}
+use Rattle.dali_crash.specs.Disks.Disks.{AllSpell, Spells}
+use Rattle.dali_core.specs.Vault.Vaulted.{Vaulted}
+use Rattle.dali_core.specs.Vault.Stepped.{vault_in}
+use Rattle.dali_core.proofs.VaultLemmas.Stepped.{begins_right}
+use Rattle.dali_resume.specs.Interrupted.Found.{FindsIt}
 use Rattle.dali_recovery.specs.Laws.{outcome_of}
 use Rattle.dali_recovery.specs.declared.recovery.Recovered.{Recovered}
-use Rattle.dali_rise.specs.Risen.{IsRisen, RunBegins, start_at}
-use Rattle.dali_rise.specs.declared.rising.Resting.{Resting}
+use Rattle.dali_restart.specs.Rise.Risen.{IsRisen, RunBegins, start_at}
+use Rattle.dali_restart.specs.declared.rise.rising.Resting.{Resting}
 use Rattle.dali_restart.specs.declared.restarting.Found.{Found}
 use Rattle.dali_restart.specs.declared.restarting.Report.{Report}
 use Rattle.dali_restart.specs.Deciding.{IsReadIn, IsSettled, Settles}
@@ -69,12 +70,12 @@ is_fresh {V = V} r words limit store gs y v risen =
     let here : store ≡ v.store = sym (ap (λ (w : Vaulted V). w.store) risen.vault) in
     record { resting = r; words = words; risen = subst (λ (w : V). IsRisen r words limit w gs y v) here risen }
 
-module _ {V : Type 0} (told : V → Option Disk) (may_leave : V → Disk → Type 0) (faults : V → ℕ) (limit : ℕ) (fits : limit ≤ 268435456) (x : Found) (r : Resting) (store : V) (gs : List RegionState) (y : Served) (v : Vaulted V)
-    (risen : IsRisen r x.reloaded.recovered.regions.items limit store gs y v) (begins : RunBegins told may_leave faults r x.reloaded.recovered.regions.items limit gs y.state v) where
+module _ {V : Type 0} (means : Ghosts V) (limit : ℕ) (fits : limit ≤ 268435456) (x : Found) (r : Resting) (store : V) (gs : List RegionState) (y : Served) (v : Vaulted V)
+    (risen : IsRisen r x.reloaded.recovered.regions.items limit store gs y v) (begins : RunBegins means r x.reloaded.recovered.regions.items limit gs y.state v) where
   here : store ≡ v.store
   here = sym (ap (λ (w : Vaulted V). w.store) risen.vault)
 
-  runs_from : (F : Files) → IsSettled F x r (may_leave store) → RunsFrom told may_leave faults limit F gs y.state v
+  runs_from : (F : Files) → IsSettled F x r (means.may_leave store) → RunsFrom means limit F gs y.state v
   runs_from F s = record {
     log = s.log;
     goes_on = s.goes_on;
@@ -86,15 +87,15 @@ module _ {V : Type 0} (told : V → Option Disk) (may_leave : V → Disk → Typ
     begins = λ words heads synced. begins s.log s.rules s.batches words heads synced s.at (starts words heads synced);
   }
     where
-      may_run : MayRun s.log (vault_in faults (faults v.store) v)
-      may_run = subst (λ (w : Vaulted V). MayRun s.log (vault_in faults (faults w.store) w)) (sym risen.vault) (begins_right faults s.log store r.end r.current s.at.short s.at.moved)
+      may_run : MayRun s.log (vault_in means.faults (means.faults v.store) v)
+      may_run = subst (λ (w : Vaulted V). MayRun s.log (vault_in means.faults (means.faults w.store) w)) (sym risen.vault) (begins_right means.faults s.log store r.end r.current s.at.short s.at.moved)
 
       starts : (words : Told) (heads : Side → Head) (synced : Side → Bool)
-          → IfSome (told v.store) (λ _. AllSpell (may_leave v.store) (λ G. StartsAt (start_at told may_leave faults s.log s.rules limit v words heads synced) G × (G.batches ≡ s.batches)))
+          → IfSome (means.told v.store) (λ _. AllSpell (means.may_leave v.store) (λ G. StartsAt (start_at means s.log s.rules limit v words heads synced) G × (G.batches ≡ s.batches)))
       starts words heads synced =
-          if_some_any _ (told v.store)
+          if_some_any _ (means.told v.store)
           (λ fs c left.
-          let q = s.disks c (subst (λ (w : V). may_leave w c) (sym here) left) in (
+          let q = s.disks c (subst (λ (w : V). means.may_leave w c) (sym here) left) in (
             q.0,
             q.1,
             (
@@ -102,36 +103,36 @@ module _ {V : Type 0} (told : V → Option Disk) (may_leave : V → Disk → Typ
                 lawful = s.at.lawful;
                 rules = s.at.rules;
                 fits = fits;
-                rests = q.4.rests (vault_in faults (faults v.store) v) may_run (ap (λ (w : Vaulted V). w.end) risen.vault) (ap (λ (w : Vaulted V). w.current) risen.vault);
+                rests = q.4.rests (vault_in means.faults (means.faults v.store) v) may_run (ap (λ (w : Vaulted V). w.end) risen.vault) (ap (λ (w : Vaulted V). w.current) risen.vault);
               },
               q.4.batches,
             ),
           ))
 
-  begins_run : (fs : Disk) (may : Disk → Type 0) → IsReadIn fs may x → Settles fs x r (may_leave store)
-      → BeginsRun told may_leave faults limit fs gs y.state v
+  begins_run : (fs : Disk) (may : Disk → Type 0) → IsReadIn fs may x → Settles fs x r (means.may_leave store)
+      → BeginsRun means limit fs gs y.state v
   begins_run fs may is settles F spells finds = runs_from F (settles is.reads F spells finds)
 
-  rests_then : (fs : Disk) (may : Disk → Type 0) → IsReadIn fs may x → Settles fs x r (may_leave store) → (c : Disk) → may_leave v.store c
+  rests_then : (fs : Disk) (may : Disk → Type 0) → IsReadIn fs may x → Settles fs x r (means.may_leave store) → (c : Disk) → means.may_leave v.store c
       → LeavesAtRest fs c
   rests_then fs may is settles c left F spells finds =
-      let q = (settles is.reads F spells finds).disks c (subst (λ (w : V). may_leave w c) (sym here) left) in (q.0, q.1, q.2, q.3)
+      let q = (settles is.reads F spells finds).disks c (subst (λ (w : V). means.may_leave w c) (sym here) left) in (q.0, q.1, q.2, q.3)
 
 -- the same where the words were read through a slice
-module _ {V : Type 0} (told : V → Option Disk) (may_leave : V → Disk → Type 0) (faults : V → ℕ) (limit : ℕ) (fits : limit ≤ 268435456) (x : Found) (r : Resting) (store : V) (gs : List RegionState) (y : Served) (v : Vaulted V)
-    (words : List (List ℕ)) (same : words ≡ x.reloaded.recovered.regions.items) (risen : IsRisen r words limit store gs y v) (begins : RunBegins told may_leave faults r words limit gs y.state v)
-    (fs : Disk) (may : Disk → Type 0) (is : IsReadIn fs may x) (settles : Settles fs x r (may_leave store)) where
+module _ {V : Type 0} (means : Ghosts V) (limit : ℕ) (fits : limit ≤ 268435456) (x : Found) (r : Resting) (store : V) (gs : List RegionState) (y : Served) (v : Vaulted V)
+    (words : List (List ℕ)) (same : words ≡ x.reloaded.recovered.regions.items) (risen : IsRisen r words limit store gs y v) (begins : RunBegins means r words limit gs y.state v)
+    (fs : Disk) (may : Disk → Type 0) (is : IsReadIn fs may x) (settles : Settles fs x r (means.may_leave store)) where
   risen_there : IsRisen r x.reloaded.recovered.regions.items limit store gs y v
   risen_there = subst (λ ws. IsRisen r ws limit store gs y v) same risen
 
-  begins_there : RunBegins told may_leave faults r x.reloaded.recovered.regions.items limit gs y.state v
-  begins_there = subst (λ ws. RunBegins told may_leave faults r ws limit gs y.state v) same begins
+  begins_there : RunBegins means r x.reloaded.recovered.regions.items limit gs y.state v
+  begins_there = subst (λ ws. RunBegins means r ws limit gs y.state v) same begins
 
-  pub begins_over : BeginsRun told may_leave faults limit fs gs y.state v
-  begins_over = begins_run told may_leave faults limit fits x r store gs y v risen_there begins_there fs may is settles
+  pub begins_over : BeginsRun means limit fs gs y.state v
+  begins_over = begins_run means limit fits x r store gs y v risen_there begins_there fs may is settles
 
-  pub rests_over : (c : Disk) → may_leave v.store c → LeavesAtRest fs c
-  rests_over = rests_then told may_leave faults limit fits x r store gs y v risen_there begins_there fs may is settles
+  pub rests_over : (c : Disk) → means.may_leave v.store c → LeavesAtRest fs c
+  rests_over = rests_then means limit fits x r store gs y v risen_there begins_there fs may is settles
 
 -- ---- what is left
 is_on_way : (F : Files) → FindsIt F → IsOnWay F F
@@ -163,28 +164,28 @@ module _ {V : Type 0} (told : V → Option Disk) (may_leave : V → Disk → Typ
       let run = stops.1 F spells finds in
       ⊎_elim (λ left. (F, subst (λ (d : Disk). Spells d F) (sym (stops.0 gs left)) spells, is_on_way F finds)) (λ way. way) (run.each gs (counts (moment mid) gs run.later now))
 
-module _ {V : Type 0} (told : V → Option Disk) (may_leave : V → Disk → Type 0) (moment : V → ℕ) (left_since : V → ℕ → Disk → Type 0) (faults : V → ℕ) (lets_pass : V → Option ℕ) where
+module _ {V : Type 0} (means : Ghosts V) where
   pub left_reading :
-      (old new : V) → OnlyReads told moment left_since may_leave old new → faults old ≤ faults new → PassesFewer (lets_pass old) (lets_pass new)
-      → IsLeft told may_leave moment left_since faults lets_pass old new
+      (old new : V) → OnlyReads means.told means.moment means.left_since means.may_leave old new → means.faults old ≤ means.faults new → PassesFewer (means.lets_pass old) (means.lets_pass new)
+      → IsLeft means old new
   left_reading old new reads later passes = record {
-    any_moment = if_some_any _ (told old) (λ fs. stops_reading told may_leave moment left_since fs old new reads.any_moment);
-    comes_back = comes_same (told old) (told new) reads.same;
+    any_moment = if_some_any _ (means.told old) (λ fs. stops_reading means.told means.may_leave means.moment means.left_since fs old new reads.any_moment);
+    comes_back = comes_same (means.told old) (means.told new) reads.same;
     tells = ap is_some reads.same;
     later = later;
     passes = passes;
   }
 
   pub left_settling :
-      (old mid new : V) → ((t : ℕ) (c : Disk) → t ≤ moment new → may_leave new c → left_since new t c) → IfSome (told new) (may_leave new)
-      → OnlyReads told moment left_since may_leave old mid → (x : Found) → IfSome (told old) (λ fs. IsReadIn fs (may_leave mid) x) → IfSome (told mid) (λ fs. StopsAlike may_leave moment left_since fs mid new) → is_some (told new) ≡ is_some (told mid)
-      → faults old ≤ faults mid → faults mid ≤ faults new → PassesFewer (lets_pass old) (lets_pass mid) → PassesFewer (lets_pass mid) (lets_pass new)
-      → IsLeft told may_leave moment left_since faults lets_pass old new
+      (old mid new : V) → ((t : ℕ) (c : Disk) → t ≤ means.moment new → means.may_leave new c → means.left_since new t c) → IfSome (means.told new) (means.may_leave new)
+      → OnlyReads means.told means.moment means.left_since means.may_leave old mid → (x : Found) → IfSome (means.told old) (λ fs. IsReadIn fs (means.may_leave mid) x) → IfSome (means.told mid) (λ fs. StopsAlike means.may_leave means.moment means.left_since fs mid new) → is_some (means.told new) ≡ is_some (means.told mid)
+      → means.faults old ≤ means.faults mid → means.faults mid ≤ means.faults new → PassesFewer (means.lets_pass old) (means.lets_pass mid) → PassesFewer (means.lets_pass mid) (means.lets_pass new)
+      → IsLeft means old new
   left_settling old mid new counts now reads x is stops tells later then passes goes = record {
-    any_moment = if_some_then _ _ (told old) (if_some_same _ (told old) (told mid) reads.same stops) (λ fs alike. stops_settling told may_leave moment left_since fs old mid new reads alike);
+    any_moment = if_some_then _ _ (means.told old) (if_some_same _ (means.told old) (means.told mid) reads.same stops) (λ fs alike. stops_settling means.told means.may_leave means.moment means.left_since fs old mid new reads alike);
     comes_back =
-        comes_settling told may_leave moment left_since mid new counts (told old) (told new)
-        (if_some_two _ _ _ (told old) is (if_some_same _ (told old) (told mid) reads.same stops) (λ fs is alike. (is.only, alike))) now;
+        comes_settling means.told means.may_leave means.moment means.left_since mid new counts (means.told old) (means.told new)
+        (if_some_two _ _ _ (means.told old) is (if_some_same _ (means.told old) (means.told mid) reads.same stops) (λ fs is alike. (is.only, alike))) now;
     tells = tells ∙ ap is_some reads.same;
     later = omega (arith, later, then);
     passes = record { counted = goes.counted ∙ passes.counted; fewer = omega (arith, passes.fewer, goes.fewer) };

@@ -10,11 +10,11 @@ use Rattle.dali_record.specs.Files.{Files}
 use Rattle.dali_record.specs.Legal.{rules_state, sizes_of}
 use Rattle.dali_history.specs.History.{HasExpected}
 use Rattle.dali_history.specs.Recovered.{recovered}
-use Rattle.dali_headline.proofs.EpochByEpoch.{recovered_is_expected}
-use Rattle.dali_headline.proofs.RestartsAgain.{names_the_report}
-use Rattle.dali_system.specs.Courses.{RunsAt}
-use Rattle.dali_system.specs.Run.{Bases, log_in, only}
-use Rattle.dali_system.specs.State.{CoreState}
+use Rattle.dali_history.proofs.HeadlineLemmas.EpochByEpoch.{recovered_is_expected}
+use Rattle.dali_history.proofs.HeadlineLemmas.RestartsAgain.{names_the_report}
+use Rattle.dali_runs.specs.Courses.{RunsAt}
+use Rattle.dali_runs.specs.Run.{Bases, log_in, only}
+use Rattle.dali_runs.specs.State.{CoreState}
 use Rattle.dali_crash.specs.Checkpoints.{Point, StoreStep, Traced, moment_of}
 use Rattle.dali_crash.specs.StoreRuns.{CrashIsRightWith, LeavesRight}
 use Rattle.dali_crash.specs.Traces.{Start, StartsAt, bases_of, start_point}
@@ -22,10 +22,10 @@ use Rattle.dali_crash.specs.Unpoked.{store_pokes}
 use Rattle.dali_crash.proofs.Traces.{every_moment_is_right, every_trace_is_right, trace_runs, traced_course, unpoked_trace_is_right}
 use Rattle.dali_crash.proofs.Unpoked.{NonePoked, none_escapes, none_loaded, store_course_unpoked}
 use Rattle.dali_resume.specs.Again.{Outcome, closed_log}
-use Rattle.dali_again.specs.Found.{FindsIt, NoneMissed}
-use Rattle.dali_again.proofs.Found.{crash_is_found}
-use Rattle.dali_again.proofs.Places.{start_has_place}
-use Rattle.dali_again.proofs.Telling.{not_twice}
+use Rattle.dali_resume.specs.Interrupted.Found.{FindsIt, NoneMissed}
+use Rattle.dali_resume.proofs.InterruptedLemmas.Found.{crash_is_found}
+use Rattle.dali_resume.proofs.InterruptedLemmas.Places.{start_has_place}
+use Rattle.dali_resume.proofs.InterruptedLemmas.Telling.{not_twice}
 use Rattle.dali_restart.specs.Headline.{AnswersRight, CrashRestartsRight, EachRestart, IsRightAnswer, IsUndamaged, OnWayGoesOn, UnpokedRestartsRight}
 use Rattle.dali_restart.specs.Restarting.{GoesOnFrom, told_by, told_list}
 

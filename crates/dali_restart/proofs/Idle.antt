@@ -6,14 +6,14 @@ use Rattle.dali_record.specs.declared.records.Record.TheVariants.{Restarted}
 use Rattle.dali_record.specs.Files.{Files}
 use Rattle.dali_record.specs.Log.{last_of}
 use Rattle.dali_store.specs.Store.{Files as Disk}
-use Rattle.dali_system.specs.Run.{log_in}
-use Rattle.dali_traces.specs.Disks.{Spells, sizes_in}
+use Rattle.dali_runs.specs.Run.{log_in}
+use Rattle.dali_crash.specs.Disks.Disks.{Spells, sizes_in}
 use Rattle.dali_resume.specs.Batches.{records_of}
 use Rattle.dali_resume.specs.Rules.{ends_restarted}
-use Rattle.dali_again.specs.Found.{FindsIt}
-use Rattle.dali_reload.specs.Counting.{IsLast}
-use Rattle.dali_reload.specs.Reading.{IsReloaded}
-use Rattle.dali_reload.specs.declared.counts.BeforeRestart.{BeforeRestart}
+use Rattle.dali_resume.specs.Interrupted.Found.{FindsIt}
+use Rattle.dali_recovery.specs.Reload.Counting.{IsLast}
+use Rattle.dali_recovery.specs.Reload.Reading.{IsReloaded}
+use Rattle.dali_recovery.specs.declared.reload.counts.BeforeRestart.{BeforeRestart}
 use Rattle.dali_restart.specs.declared.restarting.Due.TheVariants as dues
 use Rattle.dali_restart.specs.declared.restarting.Found.{Found}
 use Rattle.dali_restart.specs.Deciding.{ReadsAll, before, due_by, due_of}

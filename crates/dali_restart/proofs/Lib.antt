@@ -17,3 +17,5 @@ pub mod Due
 pub mod Settling
 pub mod Short
 pub mod Idle
+pub mod RenewalLemmas
+pub mod RiseLemmas

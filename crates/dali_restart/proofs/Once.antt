@@ -15,12 +15,12 @@ use Rattle.dali_record.proofs.Fields.{reader_words}
 use Rattle.dali_record.proofs.Readers.{some_is}
 use Rattle.dali_store.specs.declared.store.FileName.{FileName}
 use Rattle.dali_store.specs.Store.{Files as Disk}
-use Rattle.dali_batch.specs.Log.{TailOf}
-use Rattle.dali_batch.specs.Stream.{Reading}
+use Rattle.dali_log.specs.Log.{TailOf}
+use Rattle.dali_log.specs.Stream.{Reading}
 use Rattle.dali_crash.specs.Checkpoints.{Head}
-use Rattle.dali_traces.specs.Disks.{CanBeImage, head_of, txn_in, unchecked}
-use Rattle.dali_traces.specs.Places.{place_of}
-use Rattle.dali_traces.proofs.Once.{anchor_once}
+use Rattle.dali_crash.specs.Disks.Disks.{CanBeImage, head_of, txn_in, unchecked}
+use Rattle.dali_crash.specs.Disks.Places.{place_of}
+use Rattle.dali_crash.proofs.DisksLemmas.Once.{anchor_once}
 use Rattle.dali_image.specs.Laws.{header_of, table_of}
 use Rattle.dali_image.specs.Reading.{ReadsTable}
 use Rattle.dali_image.specs.Rows.{rows_of}
@@ -32,15 +32,15 @@ use Rattle.dali_image.proofs.Passed.{what_passes, wanted}
 use Rattle.dali_resume.specs.Again.{Outcome}
 use Rattle.dali_resume.specs.Batches.{verdict_over}
 use Rattle.dali_resume.specs.Onward.{HandedOut}
-use Rattle.dali_reload.specs.Reading.{FailsAt, IsBadBehind}
-use Rattle.dali_reload.proofs.Tails.{has_batch, none_bad, one_tail}
+use Rattle.dali_recovery.specs.Reload.Reading.{FailsAt, IsBadBehind}
+use Rattle.dali_recovery.proofs.ReloadLemmas.Tails.{has_batch, none_bad, one_tail}
 use Rattle.dali_restart.specs.Opening.{IsFoundIn, IsImageIn, IsOpened, IsNoImage, expected, file_in}
 use Rattle.dali_restart.specs.Laws.{IsOneOpening, OpensOnce, ReadsOnce}
 use Rattle.dali_restart.specs.Restarting.{BeginsAt, IsBadAnywhere, IsReadAs}
 use Rattle.dali_restart.proofs.Exact.{nowhere_bad, one_size}
 use Rattle.dali_restart.proofs.Finding.{begun, files_in}
 use Rattle.dali_recovery.proofs.Whole.{handed_same}
-use Rattle.dali_reload.proofs.Whole.{apart}
+use Rattle.dali_recovery.proofs.ReloadLemmas.Whole.{apart}
 
 -- ---- the words
 words_once : (xs ys : List (List ℕ)) → length xs ≡ length ys → AllAreWords xs → AllAreWords ys

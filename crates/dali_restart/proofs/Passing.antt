@@ -12,19 +12,19 @@ use Rattle.dali_record.specs.Files.{Files}
 use Rattle.dali_store.specs.declared.store.FileName.{FileName}
 use Rattle.dali_store.specs.declared.store.FileName.TheVariants.{Log}
 use Rattle.dali_store.specs.Store.{Files as Disk, Only}
-use Rattle.dali_batch.specs.Stream.{Reading, IsReadFrom}
+use Rattle.dali_log.specs.Stream.{Reading, IsReadFrom}
 use Rattle.dali_image.specs.declared.header.Header.{Header}
 use Rattle.dali_resume.specs.Onward.{going_at}
 use Rattle.dali_recovery.specs.Standing.{Stands, Starts}
 use Rattle.dali_recovery.specs.declared.recovery.Damage.{Damage as Told}
 use Rattle.dali_recovery.specs.declared.recovery.Recovery.{Recovery}
 use Rattle.dali_recovery.proofs.Whole.{begins_behind}
-use Rattle.dali_reload.specs.Reading.{IsAtImage, IsBadAt, Reloads}
-use Rattle.dali_reload.specs.Scanning.{Finds, told_of}
-use Rattle.dali_reload.specs.declared.reading.Reloaded.{Reloaded}
-use Rattle.dali_reload.specs.declared.error.ReloadError.{ReloadError}
-use Rattle.dali_reload.specs.declared.error.ReloadError.TheVariants as reloads
-use Rattle.dali_reload.proofs.Passes.{finds_later}
+use Rattle.dali_recovery.specs.Reload.Reading.{IsAtImage, IsBadAt, Reloads}
+use Rattle.dali_recovery.specs.Reload.Scanning.{Finds, told_of}
+use Rattle.dali_recovery.specs.declared.reload.reading.Reloaded.{Reloaded}
+use Rattle.dali_recovery.specs.declared.reload.error.ReloadError.{ReloadError}
+use Rattle.dali_recovery.specs.declared.reload.error.ReloadError.TheVariants as reloads
+use Rattle.dali_recovery.proofs.ReloadLemmas.Passes.{finds_later}
 use Rattle.dali_restart.specs.declared.error.RestartError.TheVariants as errors
 use Rattle.dali_restart.specs.declared.restarting.Base.{Base}
 use Rattle.dali_restart.specs.Causes.{reload_error}

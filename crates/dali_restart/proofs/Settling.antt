@@ -25,37 +25,37 @@ use Rattle.dali_history.proofs.Restarts.{IsHistory-restarted}
 use Rattle.dali_history.specs.Recovered.{base_of, recovered}
 use Rattle.dali_store.specs.Store.{Files as Disk, Only}
 use Rattle.dali_store.proofs.Moments.{weaker}
-use Rattle.dali_batch.specs.Log.{AreSpelled}
-use Rattle.dali_batch.proofs.Bytes.{batches_length}
-use Rattle.dali_counts.proofs.ShortLogs.{batches_framed}
-use Rattle.dali_counts.proofs.Tallies.{numbers, numbers_drawn, tallies}
-use Rattle.dali_system.specs.Run.{log_in}
+use Rattle.dali_log.specs.Log.{AreSpelled}
+use Rattle.dali_log.proofs.Bytes.{batches_length}
+use Rattle.dali_runs.proofs.CountsLemmas.ShortLogs.{batches_framed}
+use Rattle.dali_runs.proofs.CountsLemmas.Tallies.{numbers, numbers_drawn, tallies}
+use Rattle.dali_runs.specs.Run.{log_in}
 use Rattle.dali_crash.specs.Fitting.{FitsWhole}
-use Rattle.dali_traces.specs.Disks.{AllSpell, Spells, sizes_in}
-use Rattle.dali_traces.proofs.Ends.{some_in}
+use Rattle.dali_crash.specs.Disks.Disks.{AllSpell, Spells, sizes_in}
+use Rattle.dali_crash.proofs.DisksLemmas.Ends.{some_in}
 use Rattle.dali_image.specs.declared.header.Header.{Header}
 use Rattle.dali_resume.specs.Again.{Outcome, closed_log, closing, outcome_is}
 use Rattle.dali_resume.specs.Batches.{records_of}
 use Rattle.dali_resume.specs.Rules.{ends_restarted}
-use Rattle.dali_again.specs.Found.{FindsIt, IsResting}
-use Rattle.dali_again.specs.Rests.{EndsLogged, IsToBegin, SaysOf, StandsAlone, StandsTold}
-use Rattle.dali_again.specs.Stages.{IsAppending, IsLogged, IsMoving, IsRestarting, IsTurned}
-use Rattle.dali_again.proofs.Saying.{stages_say}
-use Rattle.dali_again.proofs.Stages.{closed_lawful, closing_log, same_sizes, turned_gates}
-use Rattle.dali_again.proofs.Telling.{tells_stage}
+use Rattle.dali_resume.specs.Interrupted.Found.{FindsIt, IsResting}
+use Rattle.dali_resume.specs.Interrupted.Rests.{EndsLogged, IsToBegin, SaysOf, StandsAlone, StandsTold}
+use Rattle.dali_resume.specs.Interrupted.Stages.{IsAppending, IsLogged, IsMoving, IsRestarting, IsTurned}
+use Rattle.dali_resume.proofs.InterruptedLemmas.Saying.{stages_say}
+use Rattle.dali_resume.proofs.InterruptedLemmas.Stages.{closed_lawful, closing_log, same_sizes, turned_gates}
+use Rattle.dali_resume.proofs.InterruptedLemmas.Telling.{tells_stage}
 use Rattle.dali_recovery.specs.Laws.{outcome_of}
-use Rattle.dali_reload.specs.Counting.{IsLast, StandsBefore}
-use Rattle.dali_reload.specs.Laws.{IsWholeLog}
-use Rattle.dali_reload.specs.Reading.{IsReloaded}
-use Rattle.dali_reload.specs.declared.counts.BeforeRestart.{BeforeRestart}
-use Rattle.dali_renewal.specs.Logged.{restart_of}
-use Rattle.dali_renewal.specs.Renewed.{AnyStage, IsStanding, Renews, SpellsSome, Stops, end_of}
-use Rattle.dali_renewal.specs.declared.renewing.Standing.{Standing}
-use Rattle.dali_renewal.proofs.Staged.{ends_behind}
-use Rattle.dali_rise.specs.Behind.{HasRoom, resting_behind}
-use Rattle.dali_rise.specs.Risen.{IsAtLog}
-use Rattle.dali_rise.specs.declared.rising.Resting.{Resting}
-use Rattle.dali_rise.proofs.Behind.{rests_behind}
+use Rattle.dali_recovery.specs.Reload.Counting.{IsLast, StandsBefore}
+use Rattle.dali_recovery.specs.Reload.Laws.{IsWholeLog}
+use Rattle.dali_recovery.specs.Reload.Reading.{IsReloaded}
+use Rattle.dali_recovery.specs.declared.reload.counts.BeforeRestart.{BeforeRestart}
+use Rattle.dali_restart.specs.Renewal.Logged.{restart_of}
+use Rattle.dali_restart.specs.Renewal.Renewed.{AnyStage, IsStanding, Renews, SpellsSome, Stops, end_of}
+use Rattle.dali_restart.specs.declared.renewal.renewing.Standing.{Standing}
+use Rattle.dali_restart.proofs.RenewalLemmas.Staged.{ends_behind}
+use Rattle.dali_restart.specs.Rise.Behind.{HasRoom, resting_behind}
+use Rattle.dali_restart.specs.Rise.Risen.{IsAtLog}
+use Rattle.dali_restart.specs.declared.rise.rising.Resting.{Resting}
+use Rattle.dali_restart.proofs.RiseLemmas.Behind.{rests_behind}
 use Rattle.dali_restart.specs.Deciding.{IsBase, IsRestingOn, IsSettled, LogsRecord, ReadsAll, Settles, WritesImage, at_end, before, due_by, due_of, resting_of}
 use Rattle.dali_restart.specs.Restarting.{IsAtRest, IsOnWay, IsTold, SpellsOnWay, StopsAlike, told_by, told_list}
 use Rattle.dali_restart.specs.declared.restarting.Due.TheVariants as dues

@@ -17,7 +17,7 @@ use Rattle.dali_record.specs.Log.{begun, committed, ended, last_of}
 use Rattle.dali_record.proofs.Ends.{by_push}
 use Rattle.dali_record.proofs.Pushes.{cut_push}
 use Rattle.dali_history.proofs.SpelledRestart.{begun_push, few_begun, more_begun, weighs_all}
-use Rattle.dali_system.specs.Run.{log_in}
+use Rattle.dali_runs.specs.Run.{log_in}
 use Rattle.dali_restart.specs.Restarting.{told_list}
 use Rattle.dali_restart.specs.Short.{IsShortRestart}
 

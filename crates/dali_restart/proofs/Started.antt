@@ -15,7 +15,7 @@ use Rattle.dali_record.specs.declared.operations.Pending.{Pending}
 use Rattle.dali_record.specs.Damage.{has}
 use Rattle.dali_record.specs.Files.{Files, Row}
 use Rattle.dali_record.specs.Spelling.{ascends}
-use Rattle.dali_traces.specs.Disks.{IsRowIn, txn_in}
+use Rattle.dali_crash.specs.Disks.Disks.{IsRowIn, txn_in}
 use Rattle.dali_image.specs.Decoding.{with_row}
 use Rattle.dali_image.specs.Laws.{CanBeTable, table_of, with_rows}
 use Rattle.dali_image.specs.Rows.{kept, state_read}

@@ -14,30 +14,30 @@ use Rattle.dali_record.specs.Legal.{IsLegalFor, sizes_of}
 use Rattle.dali_history.specs.History.{AreSpelled, HasExpected}
 use Rattle.dali_history.specs.Recovered.{base_of, recovered}
 use Rattle.dali_history.proofs.Prefixes.{sizes_of-front}
-use Rattle.dali_headline.proofs.EpochByEpoch.{recovered_is_expected}
+use Rattle.dali_history.proofs.HeadlineLemmas.EpochByEpoch.{recovered_is_expected}
 use Rattle.dali_store.specs.declared.store.FileName.{FileName}
 use Rattle.dali_store.specs.Store.{Files as Disk}
-use Rattle.dali_batch.specs.Log.{LogOf, TailOf}
-use Rattle.dali_batch.specs.Log as logs
-use Rattle.dali_batch.proofs.Fronts.{tail_from_place}
-use Rattle.dali_batch.proofs.Bytes.{batches_length}
+use Rattle.dali_log.specs.Log.{LogOf, TailOf}
+use Rattle.dali_log.specs.Log as logs
+use Rattle.dali_log.proofs.Fronts.{tail_from_place}
+use Rattle.dali_log.proofs.Bytes.{batches_length}
 use Rattle.dali_crash.specs.Fitting.{FitsWhole}
-use Rattle.dali_system.specs.Run.{log_in}
-use Rattle.dali_traces.specs.Disks.{Spells, head_of, sizes_in}
-use Rattle.dali_traces.proofs.Bridges.{ends_at}
+use Rattle.dali_runs.specs.Run.{log_in}
+use Rattle.dali_crash.specs.Disks.Disks.{Spells, head_of, sizes_in}
+use Rattle.dali_crash.proofs.DisksLemmas.Bridges.{ends_at}
 use Rattle.dali_image.specs.Laws.{header_of, table_of}
 use Rattle.dali_resume.specs.Again.{Outcome}
 use Rattle.dali_resume.specs.Batches.{misplaced, records_of, verdict_over}
 use Rattle.dali_resume.specs.Onward.{HandedOut, IsResumed, IsRightAtEnd, goes_through, image_now, verdict_of}
 use Rattle.dali_resume.proofs.Batches.{answers_over_batches, fits_in_batches}
-use Rattle.dali_again.specs.Found.{FindsIt}
+use Rattle.dali_resume.specs.Interrupted.Found.{FindsIt}
 use Rattle.dali_recovery.specs.Laws.{outcome_of}
-use Rattle.dali_reload.specs.Laws.{IsSpelledOut, IsWholeLog}
-use Rattle.dali_reload.specs.Reading.{FailsAt, IsBadBehind, IsReloaded}
-use Rattle.dali_reload.specs.declared.reading.Reloaded.{Reloaded}
-use Rattle.dali_renewal.specs.Logged.{restart_length}
-use Rattle.dali_reload.proofs.Tails.{one_tail}
-use Rattle.dali_reload.proofs.Whole.{reads_legal}
+use Rattle.dali_recovery.specs.Reload.Laws.{IsSpelledOut, IsWholeLog}
+use Rattle.dali_recovery.specs.Reload.Reading.{FailsAt, IsBadBehind, IsReloaded}
+use Rattle.dali_recovery.specs.declared.reload.reading.Reloaded.{Reloaded}
+use Rattle.dali_restart.specs.Renewal.Logged.{restart_length}
+use Rattle.dali_recovery.proofs.ReloadLemmas.Tails.{one_tail}
+use Rattle.dali_recovery.proofs.ReloadLemmas.Whole.{reads_legal}
 use Rattle.dali_restart.specs.Laws.{FoundIsGood}
 use Rattle.dali_restart.specs.Restarting.{BeginsAt, Gives, IsBadAnywhere, IsReadAs, IsTold, told_by, told_list}
 use Rattle.dali_restart.proofs.Beginning.{begins}

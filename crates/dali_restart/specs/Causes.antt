@@ -1,13 +1,13 @@
 -- What a restart says of an error of the log's file, of one of an image or the anchor, of one of the log's records, and of one of what it writes.
 use Rattle.dali_store.specs.declared.store.FileName.TheVariants.{Log}
-use Rattle.dali_batch.specs.declared.error.LogError.{LogError}
-use Rattle.dali_batch.specs.declared.error.LogError.TheVariants as logs
+use Rattle.dali_log.specs.declared.error.LogError.{LogError}
+use Rattle.dali_log.specs.declared.error.LogError.TheVariants as logs
 use Rattle.dali_image.specs.declared.error.ImageError.{ImageError}
 use Rattle.dali_image.specs.declared.error.ImageError.TheVariants as images
-use Rattle.dali_reload.specs.declared.error.ReloadError.{ReloadError}
-use Rattle.dali_reload.specs.declared.error.ReloadError.TheVariants as reloads
-use Rattle.dali_renewal.specs.declared.error.RenewalError.{RenewalError}
-use Rattle.dali_renewal.specs.declared.error.RenewalError.TheVariants as renewals
+use Rattle.dali_recovery.specs.declared.reload.error.ReloadError.{ReloadError}
+use Rattle.dali_recovery.specs.declared.reload.error.ReloadError.TheVariants as reloads
+use Rattle.dali_restart.specs.declared.renewal.error.RenewalError.{RenewalError}
+use Rattle.dali_restart.specs.declared.renewal.error.RenewalError.TheVariants as renewals
 use Rattle.dali_restart.specs.declared.error.RestartError.{RestartError}
 use Rattle.dali_restart.specs.declared.error.RestartError.TheVariants as errors
 

@@ -23,25 +23,25 @@ use Rattle.dali_history.specs.History.{IsHistory}
 use Rattle.dali_store.specs.Calls.{PassesFewer}
 use Rattle.dali_store.specs.Faults.{Rose}
 use Rattle.dali_store.specs.Store.{Files as Disk, Only}
-use Rattle.dali_batch.specs.Stream.{Reading}
-use Rattle.dali_system.specs.Run.{log_in}
-use Rattle.dali_system.specs.State.{VaultState}
+use Rattle.dali_log.specs.Stream.{Reading}
+use Rattle.dali_runs.specs.Run.{log_in}
+use Rattle.dali_runs.specs.State.{VaultState}
 use Rattle.dali_crash.specs.Traces.{IsRestingImage, MayRun}
-use Rattle.dali_traces.specs.Disks.{Spells, head_of}
+use Rattle.dali_crash.specs.Disks.Disks.{Spells, head_of}
 use Rattle.dali_image.specs.Laws.{header_of}
-use Rattle.dali_again.specs.Found.{FindsIt}
+use Rattle.dali_resume.specs.Interrupted.Found.{FindsIt}
 use Rattle.dali_recovery.specs.Standing.{IsOrderedOut}
 use Rattle.dali_recovery.specs.declared.recovery.Damage.{Damage as Told}
 use Rattle.dali_recovery.specs.declared.recovery.Recovery.{Recovery}
-use Rattle.dali_reload.specs.Reading.{IsAtImage, IsReloaded}
-use Rattle.dali_reload.specs.Scanning.{AreFound, AreSmall, FindsDamage, told_of}
-use Rattle.dali_reload.specs.declared.counts.BeforeRestart.{BeforeRestart}
-use Rattle.dali_renewal.specs.Logged.{restart_of}
-use Rattle.dali_renewal.specs.Renewed.{Renews, Stops, end_of}
-use Rattle.dali_renewal.specs.declared.renewing.Standing.{Standing}
-use Rattle.dali_rise.specs.Behind.{resting_behind}
-use Rattle.dali_rise.specs.Risen.{IsAtLog}
-use Rattle.dali_rise.specs.declared.rising.Resting.{Resting}
+use Rattle.dali_recovery.specs.Reload.Reading.{IsAtImage, IsReloaded}
+use Rattle.dali_recovery.specs.Reload.Scanning.{AreFound, AreSmall, FindsDamage, told_of}
+use Rattle.dali_recovery.specs.declared.reload.counts.BeforeRestart.{BeforeRestart}
+use Rattle.dali_restart.specs.Renewal.Logged.{restart_of}
+use Rattle.dali_restart.specs.Renewal.Renewed.{Renews, Stops, end_of}
+use Rattle.dali_restart.specs.declared.renewal.renewing.Standing.{Standing}
+use Rattle.dali_restart.specs.Rise.Behind.{resting_behind}
+use Rattle.dali_restart.specs.Rise.Risen.{IsAtLog}
+use Rattle.dali_restart.specs.declared.rise.rising.Resting.{Resting}
 use Rattle.dali_restart.specs.Restarting.{BeginsAt, GoesOnFrom, IsAtRest, IsOnWay}
 use Rattle.dali_restart.specs.declared.restarting.Base.{Base}
 use Rattle.dali_restart.specs.declared.restarting.Due.{Due}

@@ -19,18 +19,19 @@ use Rattle.dali_region.specs.declared.Side.{Side}
 use Rattle.dali_region.specs.State.{RegionState, loaded}
 use Rattle.dali_store.specs.Store.{Files as Disk, LeavesOnly}
 use Rattle.dali_store.specs.Calls.{PassesFewer, MakesAtMost}
-use Rattle.dali_batch.specs.Batch.{IsUnformatted}
-use Rattle.dali_batch.specs.Formatting.{FormatLeaves}
-use Rattle.dali_system.specs.State.{SystemState}
-use Rattle.dali_system.specs.Loads.{new_system}
-use Rattle.dali_system.specs.Images.{Told}
-use Rattle.dali_core.specs.Served.{Served}
+use Rattle.dali_store.specs.declared.store.Store.{Ghosts}
+use Rattle.dali_log.specs.Batch.{IsUnformatted}
+use Rattle.dali_log.specs.Formatting.{FormatLeaves}
+use Rattle.dali_runs.specs.State.{SystemState}
+use Rattle.dali_runs.specs.Loads.{new_system}
+use Rattle.dali_runs.specs.Images.{Told}
+use Rattle.dali_system.specs.Served.{Served}
 use Rattle.dali_crash.specs.Checkpoints.{Head}
 use Rattle.dali_crash.specs.Traces.{Start, start_point}
-use Rattle.dali_traces.specs.Bridges.{first_start}
-use Rattle.dali_vault.specs.Vaulted.{Vaulted}
-use Rattle.dali_vault.specs.Stepped.{vault_in}
-use Rattle.dali_whole.specs.Cores.{IsCoreAt}
+use Rattle.dali_crash.specs.Disks.Bridges.{first_start}
+use Rattle.dali_core.specs.Vault.Vaulted.{Vaulted}
+use Rattle.dali_core.specs.Vault.Stepped.{vault_in}
+use Rattle.dali_core.specs.Cores.{IsCoreAt}
 
 abbrev pub first_record : Sizes → Record
 first_record s = Format s.index s.heap
@@ -54,20 +55,20 @@ module _ {V : Type 0} (told : V → Option Disk) (may_leave : V → Disk → Typ
   MakesAtAnyMoment s old new =
       IfSome (told old) (λ fs. LeavesOnly moment left_since old new (λ c. may_leave old c ⊎ (IsUnformatted fs.log × FormatLeaves (may_leave old) (first_body s) c)))
 
-module _ {V : Type 0} (told : V → Option Disk) (may_leave : V → Disk → Type 0) (moment : V → ℕ) (left_since : V → ℕ → Disk → Type 0) (faults : V → ℕ) (lets_pass : V → Option ℕ) where
+module _ {V : Type 0} (means : Ghosts V) where
   pub record IsLeft (s : Sizes) (old new : V) : Type 0 where
-    pub any_moment : MakesAtAnyMoment told may_leave moment left_since s old new
-    pub tells : is_some (told new) ≡ is_some (told old)
-    pub later : faults old ≤ faults new
-    pub most : MakesAtMost 12 (lets_pass old) (lets_pass new)
-    pub passes : PassesFewer (lets_pass old) (lets_pass new)
+    pub any_moment : MakesAtAnyMoment means.told means.may_leave means.moment means.left_since s old new
+    pub tells : is_some (means.told new) ≡ is_some (means.told old)
+    pub later : means.faults old ≤ means.faults new
+    pub most : MakesAtMost 12 (means.lets_pass old) (means.lets_pass new)
+    pub passes : PassesFewer (means.lets_pass old) (means.lets_pass new)
 
-module _ {V : Type 0} (told : V → Option Disk) (may_leave : V → Disk → Type 0) (faults : V → ℕ) where
+module _ {V : Type 0} (means : Ghosts V) where
   abbrev pub first_at : Sizes → ℕ → Vaulted V → Told → (Side → Head) → (Side → Bool) → Start
   first_at s limit v words heads synced =
-      first_start s.index s.heap (passes rules_start (first_record s)) limit (vault_in faults (faults v.store) v) words heads synced
+      first_start s.index s.heap (passes rules_start (first_record s)) limit (vault_in means.faults (means.faults v.store) v) words heads synced
 
   abbrev pub RunBegins : Sizes → ℕ → List RegionState → SystemState → Vaulted V → Type 0
   RunBegins s limit gs y v =
       (words : Told) (heads : Side → Head) (synced : Side → Bool)
-      → let start = first_at s limit v words heads synced in IsCoreAt told may_leave faults start ((first_record s ∷ []) ∷ []) (start_point start) gs y v
+      → let start = first_at s limit v words heads synced in IsCoreAt means start ((first_record s ∷ []) ∷ []) (start_point start) gs y v

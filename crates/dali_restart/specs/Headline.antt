@@ -18,16 +18,16 @@ use Rattle.dali_record.specs.Epochs.{last_epoch, recovered_epoch}
 use Rattle.dali_record.specs.Files.{Files}
 use Rattle.dali_history.specs.History.{HasExpected, IsHistory}
 use Rattle.dali_store.specs.Store.{Files as Disk}
-use Rattle.dali_system.specs.Crashes.{NoneEscapes}
-use Rattle.dali_system.specs.Run.{log_in}
-use Rattle.dali_system.specs.State.{CoreState}
+use Rattle.dali_runs.specs.Crashes.{NoneEscapes}
+use Rattle.dali_runs.specs.Run.{log_in}
+use Rattle.dali_runs.specs.State.{CoreState}
 use Rattle.dali_crash.specs.Checkpoints.{Inside, IsPointStep, Point, StoreStep, Traced}
 use Rattle.dali_crash.specs.Restarts.{RestartsRight}
 use Rattle.dali_crash.specs.Traces.{Start, StartsAt, start_point}
 use Rattle.dali_crash.specs.Unpoked.{store_pokes}
-use Rattle.dali_traces.specs.Disks.{Spells}
+use Rattle.dali_crash.specs.Disks.Disks.{Spells}
 use Rattle.dali_resume.specs.Again.{Outcome}
-use Rattle.dali_again.specs.Found.{NoneMissed}
+use Rattle.dali_resume.specs.Interrupted.Found.{NoneMissed}
 use Rattle.dali_restart.specs.Restarting.{Gives, IsOnWay, told_by}
 
 abbrev pub OnWayGoesOn : Type 0

@@ -23,18 +23,18 @@ use Rattle.dali_record.specs.Legal.{sizes_of}
 use Rattle.dali_history.specs.Recovered.{base_of}
 use Rattle.dali_store.specs.declared.store.FileName.{FileName}
 use Rattle.dali_store.specs.Store.{Files as Disk}
-use Rattle.dali_batch.specs.Batch.{IsUnformatted}
-use Rattle.dali_batch.specs.Log.{LogOf}
-use Rattle.dali_batch.specs.Stream.{Reading}
-use Rattle.dali_system.specs.Run.{log_in}
+use Rattle.dali_log.specs.Batch.{IsUnformatted}
+use Rattle.dali_log.specs.Log.{LogOf}
+use Rattle.dali_log.specs.Stream.{Reading}
+use Rattle.dali_runs.specs.Run.{log_in}
 use Rattle.dali_crash.specs.Fitting.{FitsWhole}
 use Rattle.dali_crash.specs.Starts.{IsLawful}
-use Rattle.dali_traces.specs.Disks.{Spells, head_of}
+use Rattle.dali_crash.specs.Disks.Disks.{Spells, head_of}
 use Rattle.dali_image.specs.Laws.{header_of, table_of}
 use Rattle.dali_image.specs.declared.header.Header.{Header}
 use Rattle.dali_resume.specs.Again.{Outcome}
-use Rattle.dali_again.specs.Found.{FindsIt}
-use Rattle.dali_renewal.specs.Logged.{restart_length}
+use Rattle.dali_resume.specs.Interrupted.Found.{FindsIt}
+use Rattle.dali_restart.specs.Renewal.Logged.{restart_length}
 use Rattle.dali_restart.specs.Opening.{IsOpened, IsBadStore}
 use Rattle.dali_restart.specs.Restarting.{BeginsAt, IsBadAnywhere, IsReadAs, IsTold}
 

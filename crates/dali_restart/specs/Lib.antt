@@ -6,3 +6,5 @@ pub mod Deciding
 pub mod Laws
 pub mod Headline
 pub mod Short
+pub mod Renewal
+pub mod Rise

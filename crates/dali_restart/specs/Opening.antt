@@ -18,10 +18,11 @@ use Rattle.dali_record.specs.Spelling.{CanBeSpelled}
 use Rattle.dali_store.specs.declared.store.FileName.{FileName}
 use Rattle.dali_store.specs.declared.store.FileName.TheVariants.{Log, Anchor}
 use Rattle.dali_store.specs.Store.{Files as Disk, file_of}
-use Rattle.dali_batch.specs.Log.{IsBadFirst, IsRun}
-use Rattle.dali_batch.specs.Stream.{Reading, IsReadFrom}
+use Rattle.dali_log.specs.Log.{IsBadFirst, IsRun}
+use Rattle.dali_log.specs.Stream.{Reading, IsReadFrom}
 use Rattle.dali_crash.specs.Checkpoints.{side_of}
-use Rattle.dali_traces.specs.Disks.{IsAnchor, image_name}
+use Rattle.dali_crash.specs.Disks.Disks.{image_name}
+use Rattle.dali_log.specs.Anchors.{IsAnchor}
 use Rattle.dali_image.specs.Headers.{HasHeading, NoHeading, bad_header}
 use Rattle.dali_image.specs.Reading.{NoAnchor, ReadsRegions, ReadsTable, NoTable}
 use Rattle.dali_image.specs.Rows.{AreUndos}

@@ -30,26 +30,27 @@ use Rattle.dali_store.specs.declared.store.FileName.{FileName}
 use Rattle.dali_store.specs.declared.store.FileName.TheVariants.{Log}
 use Rattle.dali_store.specs.Store.{Files as Disk, LeavesOnly}
 use Rattle.dali_store.specs.Calls.{PassesFewer}
-use Rattle.dali_batch.specs.Log.{TailOf}
-use Rattle.dali_batch.specs.Reads.{OnlyReads}
-use Rattle.dali_batch.specs.Stream.{Reading}
-use Rattle.dali_system.specs.State.{SystemState}
-use Rattle.dali_system.specs.Images.{Told}
-use Rattle.dali_system.specs.Run.{log_in}
-use Rattle.dali_core.specs.Served.{Served}
+use Rattle.dali_store.specs.declared.store.Store.{Ghosts}
+use Rattle.dali_log.specs.Log.{TailOf}
+use Rattle.dali_log.specs.Reads.{OnlyReads}
+use Rattle.dali_log.specs.Stream.{Reading}
+use Rattle.dali_runs.specs.State.{SystemState}
+use Rattle.dali_runs.specs.Images.{Told}
+use Rattle.dali_runs.specs.Run.{log_in}
+use Rattle.dali_system.specs.Served.{Served}
 use Rattle.dali_crash.specs.Checkpoints.{Head}
 use Rattle.dali_crash.specs.Traces.{start_point}
-use Rattle.dali_traces.specs.Disks.{Spells, head_of}
-use Rattle.dali_vault.specs.Vaulted.{Vaulted}
-use Rattle.dali_whole.specs.Cores.{IsCoreAt}
+use Rattle.dali_crash.specs.Disks.Disks.{Spells, head_of}
+use Rattle.dali_core.specs.Vault.Vaulted.{Vaulted}
+use Rattle.dali_core.specs.Cores.{IsCoreAt}
 use Rattle.dali_image.specs.Laws.{CanBeTable, header_of, table_of}
 use Rattle.dali_resume.specs.Again.{Outcome, closed_log}
 use Rattle.dali_resume.specs.Batches.{verdict_over}
 use Rattle.dali_resume.specs.Onward.{HandedOut}
-use Rattle.dali_again.specs.Found.{FindsIt}
-use Rattle.dali_reload.specs.Reading.{FailsAt, IsBadBehind}
-use Rattle.dali_rise.specs.declared.rising.Resting.{Resting}
-use Rattle.dali_rise.specs.Risen.{IsRisen, start_at}
+use Rattle.dali_resume.specs.Interrupted.Found.{FindsIt}
+use Rattle.dali_recovery.specs.Reload.Reading.{FailsAt, IsBadBehind}
+use Rattle.dali_restart.specs.declared.rise.rising.Resting.{Resting}
+use Rattle.dali_restart.specs.Rise.Risen.{IsRisen, start_at}
 use Rattle.dali_restart.specs.declared.restarting.Report.{Report}
 use Rattle.dali_restart.specs.Opening.{IsBadStore, IsOpened}
 
@@ -130,14 +131,14 @@ module _ {V : Type 0} (told : V → Option Disk) (may_leave : V → Disk → Typ
   abbrev pub StaysIdle : Disk → V → V → Type 0
   StaysIdle fs old new = (F : Files) → Spells fs F → FindsIt F → IsAtRest F → OnlyReads told moment left_since may_leave old new
 
-module _ {V : Type 0} (told : V → Option Disk) (may_leave : V → Disk → Type 0) (moment : V → ℕ) (left_since : V → ℕ → Disk → Type 0) (faults : V → ℕ) (lets_pass : V → Option ℕ) where
+module _ {V : Type 0} (means : Ghosts V) where
   pub record IsLeft (old new : V) : Type 0 where
-    pub any_moment : IfSome (told old) (λ fs. StopsAlike may_leave moment left_since fs old new)
+    pub any_moment : IfSome (means.told old) (λ fs. StopsAlike means.may_leave means.moment means.left_since fs old new)
     -- and so reads the store that comes back
-    pub comes_back : IfSome (told old) (λ fs. IfSome (told new) (λ gs. (F : Files) → Spells fs F → FindsIt F → SpellsOnWay F gs))
-    pub tells : is_some (told new) ≡ is_some (told old)
-    pub later : faults old ≤ faults new
-    pub passes : PassesFewer (lets_pass old) (lets_pass new)
+    pub comes_back : IfSome (means.told old) (λ fs. IfSome (means.told new) (λ gs. (F : Files) → Spells fs F → FindsIt F → SpellsOnWay F gs))
+    pub tells : is_some (means.told new) ≡ is_some (means.told old)
+    pub later : means.faults old ≤ means.faults new
+    pub passes : PassesFewer (means.lets_pass old) (means.lets_pass new)
 
 -- ---- the core
 pub record IsFresh {V : Type 0} (limit : ℕ) (gs : List RegionState) (y : Served) (v : Vaulted V) : Type 0 where
@@ -145,7 +146,7 @@ pub record IsFresh {V : Type 0} (limit : ℕ) (gs : List RegionState) (y : Serve
   pub words : List (List ℕ)
   pub risen : IsRisen resting words limit v.store gs y v
 
-module _ {V : Type 0} (told : V → Option Disk) (may_leave : V → Disk → Type 0) (faults : V → ℕ) where
+module _ {V : Type 0} (means : Ghosts V) where
   pub record RunsFrom (limit : ℕ) (F : Files) (gs : List RegionState) (y : SystemState) (v : Vaulted V) : Type 0 where
     pub log : List Record
     pub goes_on : GoesOnFrom (log_in F) log
@@ -158,7 +159,7 @@ module _ {V : Type 0} (told : V → Option Disk) (may_leave : V → Disk → Typ
     -- whatever it takes the words, heads and syncs of the image files for, which aren't read before a checkpoint
     pub begins : (words : Told) (heads : Side → Head) (synced : Side → Bool)
         → let start =
-        start_at told may_leave faults log rules limit v words heads synced in IsCoreAt told may_leave faults start batches (start_point start) gs y v
+        start_at means log rules limit v words heads synced in IsCoreAt means start batches (start_point start) gs y v
 
   abbrev pub BeginsRun : ℕ → Disk → List RegionState → SystemState → Vaulted V → Type 0
   BeginsRun limit fs gs y v = (F : Files) → Spells fs F → FindsIt F → RunsFrom limit F gs y v

@@ -3,11 +3,11 @@ ghost use Rattle.std.specs.Prelude.{◌≡◌};
 ghost use Rattle.dali_restart.specs.declared.error.RestartError.TheVariants as errors;
 ghost use Rattle.dali_restart.specs.Causes.{log_error, image_error, reload_error, renewal_error};
 
-use dali_batch::LogError;
+use crate::renewal::RenewalError;
 use dali_bytes::OutOfMemory;
 use dali_image::ImageError;
-use dali_reload::ReloadError;
-use dali_renewal::RenewalError;
+use dali_log::LogError;
+use dali_recovery::reload::ReloadError;
 use dali_store::{FileName, Store, StoreFault};
 use std::alloc::AllocError;
 use thiserror::Error;

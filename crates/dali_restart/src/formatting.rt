@@ -5,24 +5,24 @@ ghost use Rattle.dali_record.specs.Spelling.{CanBeSpelled};
 ghost use Rattle.dali_store.specs.Calls.{PassesFewer, MakesAtMost};
 ghost use Rattle.dali_store.specs.Faults.{Rose, HasCause};
 ghost use Rattle.dali_store.specs.Store.{Files, LeavesOnly};
-ghost use Rattle.dali_batch.specs.Batch.{IsUnformatted};
-ghost use Rattle.dali_batch.specs.Formatting.{FormatLeaves, IsFormattedBy};
-ghost use Rattle.dali_batch.specs.Reads.{OnlyReads};
-ghost use Rattle.dali_whole.specs.Cores.{IsWholeCore};
+ghost use Rattle.dali_log.specs.Batch.{IsUnformatted};
+ghost use Rattle.dali_log.specs.Formatting.{FormatLeaves, IsFormattedBy};
+ghost use Rattle.dali_log.specs.Reads.{OnlyReads};
+ghost use Rattle.dali_core.specs.Cores.{IsWholeCore};
 ghost use Rattle.dali_restart.specs.declared.error.RestartError.TheVariants as errors;
 ghost use Rattle.dali_restart.specs.Formatted.{first_body, formatted_regions, first_system, IsNewCore, MakesAtAnyMoment, IsLeft, RunBegins};
 
 use crate::error::{Refused, RestartError};
 use crate::regions;
-use dali_batch::{Frame, is_formatted};
 use dali_bytes::OutOfMemory;
-use dali_core::System;
+use dali_core::Core;
+use dali_core::vault::Vault;
 use dali_geometry::Geometry;
+use dali_log::{Frame, is_formatted};
 use dali_record::{Record, encode};
 use dali_region::Region;
 use dali_store::{Store, StoreFault};
-use dali_vault::Vault;
-use dali_whole::Core;
+use dali_system::System;
 use std::alloc::Global;
 
 // The first batch of a log.
@@ -77,7 +77,7 @@ fn write_first<V: Store>(
     ensures most { MakesAtMost 9 (V.lets_pass store.old) (V.lets_pass store.new) }
     ensures passes { PassesFewer (V.lets_pass store.old) (V.lets_pass store.new) }
 {
-    dali_batch::format(store, frame)
+    dali_log::format(store, frame)
 }
 
 // Refuses a log that has a first batch, once it is synced: then no crash leaves it otherwise.
@@ -163,7 +163,7 @@ pub fn format<V: Store>(
     ensures core { IfOk result (λ core. IsNewCore geometry limit core.regions.items core.system core.vault) }
     ensures whole { IfOk result (λ core. IsWholeCore V.told core.regions.items core.system.state core.vault) }
     // The first steps of a run may follow.
-    ensures begins { IfOk result (λ core. RunBegins V.told V.may_leave V.faults geometry limit core.regions.items core.system.state core.vault) }
+    ensures begins { IfOk result (λ core. RunBegins V.Store geometry limit core.regions.items core.system.state core.vault) }
     ensures makes { IfOk result (λ core. IfSome (V.told store) (λ _. (c : Files) → V.may_leave core.vault.store c → IsFormattedBy (V.may_leave store) (first_body geometry) c)) }
     ensures unformatted { OnOk result (IfSome (V.told store) (λ fs. IsUnformatted fs.log)) }
     ensures formatted { IfErr result (λ refused. refused.error ≡ errors.Formatted → IfSome (V.told store) (λ fs. IsUnformatted fs.log → ⊥)) }
@@ -172,8 +172,8 @@ pub fn format<V: Store>(
     ensures errors { IfErr result (λ refused. (refused.error ≡ errors.Fault) ⊎ (refused.error ≡ errors.Formatted) ⊎ (refused.error ≡ errors.OutOfMemory)) }
     ensures fault { IfErr result (λ refused. refused.error ≡ errors.Fault → Rose (V.faults store) (V.faults refused.store)) }
     ensures kept { MatchResult result (λ core. V.faults core.vault.store ≡ V.faults store) (λ refused. (refused.error ≡ errors.Fault → ⊥) → V.faults refused.store ≡ V.faults store) }
-    ensures leaves { MatchResult result (λ core. IsLeft V.told V.may_leave V.moment V.left_since V.faults V.lets_pass geometry store core.vault.store)
-        (λ refused. IsLeft V.told V.may_leave V.moment V.left_since V.faults V.lets_pass geometry store refused.store) }
+    ensures leaves { MatchResult result (λ core. IsLeft V.Store geometry store core.vault.store)
+        (λ refused. IsLeft V.Store geometry store refused.store) }
 {
     let mut store = store;
     match make_in(alloc, &mut store, geometry, limit) {

@@ -6,7 +6,9 @@ mod formatting;
 pub mod laws;
 mod opening;
 mod regions;
+pub mod renewal;
 mod restarting;
+pub mod rise;
 
 pub use error::{Refused, RestartError};
 pub use formatting::format;

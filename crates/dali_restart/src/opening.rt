@@ -7,11 +7,12 @@ ghost use Rattle.dali_store.specs.declared.store.FileName.{FileName as Name};
 ghost use Rattle.dali_store.specs.Calls.{PassesFewer};
 ghost use Rattle.dali_store.specs.Faults.{Rose, HasCause};
 ghost use Rattle.dali_store.specs.Store.{Only, file_of};
-ghost use Rattle.dali_batch.specs.Batch.{IsUnformatted};
-ghost use Rattle.dali_batch.specs.Reads.{OnlyReads, ReadsOrFails};
-ghost use Rattle.dali_batch.specs.Stream.{IsWindow};
+ghost use Rattle.dali_log.specs.Batch.{IsUnformatted};
+ghost use Rattle.dali_log.specs.Reads.{OnlyReads, ReadsOrFails};
+ghost use Rattle.dali_log.specs.Stream.{IsWindow};
 ghost use Rattle.dali_crash.specs.Checkpoints;
-ghost use Rattle.dali_traces.specs.Disks.{IsAnchor, image_name};
+ghost use Rattle.dali_crash.specs.Disks.Disks.{image_name};
+ghost use Rattle.dali_log.specs.Anchors.{IsAnchor};
 ghost use Rattle.dali_image.specs.Headers.{HasHeading, bad_header, IsWanted};
 ghost use Rattle.dali_image.specs.Laws.{IsHeader};
 ghost use Rattle.dali_image.specs.Reading.{ReadsRegions, end_of};
@@ -22,9 +23,9 @@ ghost use Rattle.dali_restart.specs.Opening.{BeginsWith, IsNoImage, BadImageAt, 
 use crate::error::RestartError;
 use crate::regions;
 use dali_att::Att;
-use dali_batch::LogReader;
 use dali_geometry::Geometry;
 use dali_image::{Expected, Header, ImageError, read_header, read_regions, read_table};
+use dali_log::LogReader;
 use dali_record::Pending;
 use dali_region::Side;
 use dali_store::{FileName, Store, StoreFault};
@@ -118,7 +119,7 @@ fn read_words<V: Store>(
     ensures ok { IfOk result (λ words. IfSome (V.told store.old) (λ fs. ReadsRegions (file_of (image_name side) fs) 0 words.items)) }
     ensures bad { IfErr result (λ e. (file : Name) (at : ℕ) → e ≡ images.BadImage file at →
         (file ≡ image_name side) × (at ≡ 56) × IfSome (V.told store.old) (λ fs. length (file_of (image_name side) fs) < end_of 0 (regions_of geometry.now))) }
-    ensures store { ReadsOrFails V.told V.moment V.left_since V.may_leave V.faults V.lets_pass (IsErrOf result images.Fault) store.old store.new }
+    ensures store { ReadsOrFails V.Store (IsErrOf result images.Fault) store.old store.new }
 {
     let mut words = vec![in alloc; [0; 64]; geometry.regions() as usize]?;
     match read_regions(alloc, store, side, 0, &mut words) {
@@ -139,7 +140,7 @@ fn read_checked<V: Store>(
     ensures ok { IfOk result (λ header. IfSome (V.told store.old) (λ fs. HasHeading (file_of (image_name side) fs) header)) }
     ensures bad { IfErr result (λ e. (file : Name) (at : ℕ) → e ≡ images.BadImage file at →
         (file ≡ image_name side) × IfSome (V.told store.old) (λ fs. BadImageAt (file_of (image_name side) fs) expected.now at)) }
-    ensures store { ReadsOrFails V.told V.moment V.left_since V.may_leave V.faults V.lets_pass (IsErrOf result images.Fault) store.old store.new }
+    ensures store { ReadsOrFails V.Store (IsErrOf result images.Fault) store.old store.new }
 {
     match read_header(store, side) {
         Ok(header) => match header.check(side, expected) {
@@ -161,7 +162,7 @@ fn read_image<V: Store>(
     ensures in_range { IfOk result (λ image. IsInRange expected.now.geometry image.header image.regions.items image.table) }
     ensures bad { IfErr result (λ e. (file : Name) (at : ℕ) → e ≡ images.BadImage file at →
         (file ≡ image_name side) × IfSome (V.told store.old) (λ fs. BadImageAt (file_of (image_name side) fs) expected.now at)) }
-    ensures store { ReadsOrFails V.told V.moment V.left_since V.may_leave V.faults V.lets_pass (IsErrOf result images.Fault) store.old store.new }
+    ensures store { ReadsOrFails V.Store (IsErrOf result images.Fault) store.old store.new }
 {
     let header = match read_checked(store, side, expected) {
         Ok(header) => header,
@@ -195,7 +196,7 @@ fn current_image<V: Store>(
     ensures long { IsErrOf result errors.TooLong → ⊥ }
     ensures steady { IsErrOf result errors.Unsteady → ⊥ }
     ensures unformatted { IsErrOf result errors.Unformatted → ⊥ }
-    ensures store { ReadsOrFails V.told V.moment V.left_since V.may_leave V.faults V.lets_pass (IsErrOf result errors.Fault) store.old store.new }
+    ensures store { ReadsOrFails V.Store (IsErrOf result errors.Fault) store.old store.new }
 {
     if current == 0 {
         return match first_image(alloc, geometry) {
@@ -231,7 +232,7 @@ fn read_first<V: Store>(
     ensures long { IsErrOf result errors.TooLong → ⊥ }
     ensures steady { IsErrOf result errors.Unsteady → ⊥ }
     ensures unformatted { IsErrOf result errors.Unformatted → IfSome (V.told store.old) (λ fs. IsUnformatted fs.log) }
-    ensures store { ReadsOrFails V.told V.moment V.left_since V.may_leave V.faults V.lets_pass (IsErrOf result errors.Fault) store.old store.new }
+    ensures store { ReadsOrFails V.Store (IsErrOf result errors.Fault) store.old store.new }
 {
     let (reader, (index, heap)) = match LogReader::open(alloc, store) {
         Ok(opened) => opened,

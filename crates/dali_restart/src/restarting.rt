@@ -5,13 +5,13 @@ ghost use Rattle.dali_record.specs.Blocks.{AreWords, AllAreWords};
 ghost use Rattle.dali_store.specs.declared.store.FileName.{FileName as Name};
 ghost use Rattle.dali_store.specs.Faults.{Rose};
 ghost use Rattle.dali_store.specs.Store.{Files};
-ghost use Rattle.dali_batch.specs.Batch.{IsUnformatted};
-ghost use Rattle.dali_batch.specs.Reads.{OnlyReads, ReadsOrFails};
-ghost use Rattle.dali_whole.specs.Cores.{IsWholeCore};
+ghost use Rattle.dali_log.specs.Batch.{IsUnformatted};
+ghost use Rattle.dali_log.specs.Reads.{OnlyReads, ReadsOrFails};
+ghost use Rattle.dali_core.specs.Cores.{IsWholeCore};
 ghost use Rattle.dali_recovery.specs.Standing.{IsOrdered};
 ghost use Rattle.dali_resume.specs.Again.{Outcome};
-ghost use Rattle.dali_renewal.specs.Logged.{restart_length};
-ghost use Rattle.dali_renewal.specs.Renewed.{AreReady};
+ghost use Rattle.dali_restart.specs.Renewal.Logged.{restart_length};
+ghost use Rattle.dali_restart.specs.Renewal.Renewed.{AreReady};
 ghost use Rattle.dali_restart.specs.declared.error.RestartError.TheVariants as errors;
 ghost use Rattle.dali_restart.specs.declared.restarting.Due.TheVariants as dues;
 ghost use Rattle.dali_restart.specs.Opening.{IsBadStore};
@@ -20,15 +20,15 @@ ghost use Rattle.dali_restart.specs.Deciding.{IsInRoom, IsBegunIn, IsReadIn, IsI
 
 use crate::error::{Refused, RestartError};
 use crate::opening::{Opened, open};
-use dali_batch::LogReader;
+use crate::renewal::{Standing, renew};
+use crate::rise::{Resting, rise};
+use dali_core::Core;
 use dali_geometry::Geometry;
 use dali_image::Header;
+use dali_log::LogReader;
+use dali_recovery::reload::{Pass, Reloaded, read_scanned};
 use dali_recovery::{Damage, Recovered, Recovery};
-use dali_reload::{Pass, Reloaded, read_scanned};
-use dali_renewal::{Standing, renew};
-use dali_rise::{Resting, rise};
 use dali_store::Store;
-use dali_whole::Core;
 use std::alloc::Global;
 
 /// What a restart did to the transactions that its log's last epoch leaves, or what the last restart did, where no record stands
@@ -106,7 +106,7 @@ fn begin<V: Store>(alloc: Global, store: &mut V) -> Result<Begun, RestartError>
     ensures formatted { IsErrOf result errors.Formatted → ⊥ }
     ensures long { IsErrOf result errors.TooLong → ⊥ }
     ensures steady { IsErrOf result errors.Unsteady → ⊥ }
-    ensures store { ReadsOrFails V.told V.moment V.left_since V.may_leave V.faults V.lets_pass (IsErrOf result errors.Fault) store.old store.new }
+    ensures store { ReadsOrFails V.Store (IsErrOf result errors.Fault) store.old store.new }
 {
     let opened = match open(alloc, store) {
         Ok(opened) => opened,
@@ -155,7 +155,7 @@ fn pass<V: Store>(alloc: Global, store: &mut V, known: &[Damage]) -> Result<Step
     ensures formatted { IsErrOf result errors.Formatted → ⊥ }
     ensures long { IsErrOf result errors.TooLong → ⊥ }
     ensures steady { IsErrOf result errors.Unsteady → ⊥ }
-    ensures store { ReadsOrFails V.told V.moment V.left_since V.may_leave V.faults V.lets_pass (IsErrOf result errors.Fault) store.old store.new }
+    ensures store { ReadsOrFails V.Store (IsErrOf result errors.Fault) store.old store.new }
 {
     let begun = match begin(alloc, store) {
         Ok(begun) => begun,
@@ -183,7 +183,7 @@ fn read<V: Store>(alloc: Global, store: &mut V) -> Result<Found, RestartError>
     ensures formatted { IsErrOf result errors.Formatted → ⊥ }
     ensures long { IsErrOf result errors.TooLong → ⊥ }
     ensures steady { IsErrOf result errors.Unsteady → V.told store.old ≡ None }
-    ensures store { ReadsOrFails V.told V.moment V.left_since V.may_leave V.faults V.lets_pass (IsErrOf result errors.Fault) store.old store.new }
+    ensures store { ReadsOrFails V.Store (IsErrOf result errors.Fault) store.old store.new }
 {
     let mut known: Vec<Damage> = Vec::new(alloc);
     let mut last = 0;
@@ -385,7 +385,7 @@ pub fn restart<V: Store>(
     ensures whole { IfOk result (λ made. IsWholeCore V.told made.0.regions.items made.0.system.state made.0.vault) }
     // The first steps of a run may follow.
     ensures begins { IfOk result (λ made. IfSome (V.told store) (λ fs.
-        BeginsRun V.told V.may_leave V.faults limit fs made.0.regions.items made.0.system.state made.0.vault)) }
+        BeginsRun V.Store limit fs made.0.regions.items made.0.system.state made.0.vault)) }
     ensures rests { IfOk result (λ made. IfSome (V.told store) (λ fs. (c : Files) →
         V.may_leave made.0.vault.store c → LeavesAtRest fs c)) }
     // Files at rest stay as they are.
@@ -411,8 +411,8 @@ pub fn restart<V: Store>(
     ensures kept { MatchResult result (λ made. V.faults made.0.vault.store ≡ V.faults store)
         (λ refused. (refused.error ≡ errors.Fault → ⊥) → V.faults refused.store ≡ V.faults store) }
     ensures any_moment { MatchResult result
-        (λ made. IsLeft V.told V.may_leave V.moment V.left_since V.faults V.lets_pass store made.0.vault.store)
-        (λ refused. IsLeft V.told V.may_leave V.moment V.left_since V.faults V.lets_pass store refused.store) }
+        (λ made. IsLeft V.Store store made.0.vault.store)
+        (λ refused. IsLeft V.Store store refused.store) }
 {
     let mut store = store;
     let found = match read(alloc, &mut store) {

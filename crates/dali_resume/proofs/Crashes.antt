@@ -10,10 +10,10 @@ use Rattle.dali_record.specs.Legal.{sizes_of}
 use Rattle.dali_record.specs.Files.{Files}
 use Rattle.dali_history.specs.Recovered.{base_of, recovered, recovered_now, freed}
 use Rattle.dali_history.specs.History.{IsHistory, RestartGives}
-use Rattle.dali_headline.proofs.EpochByEpoch.{recovered_holds}
-use Rattle.dali_headline.proofs.NothingToFree.{freed_tidy}
-use Rattle.dali_headline.proofs.Headline.{restart_is_right}
-use Rattle.dali_system.specs.Run.{log_in}
+use Rattle.dali_history.proofs.HeadlineLemmas.EpochByEpoch.{recovered_holds}
+use Rattle.dali_history.proofs.HeadlineLemmas.NothingToFree.{freed_tidy}
+use Rattle.dali_history.proofs.HeadlineLemmas.Headline.{restart_is_right}
+use Rattle.dali_runs.specs.Run.{log_in}
 use Rattle.dali_crash.specs.Fitting.{FitsWhole}
 use Rattle.dali_resume.specs.Again.{Outcome, lists_told, restarts_to}
 use Rattle.dali_resume.specs.Crashes.{GivesAll, Resumes, EveryHistoryResumes, CrashResumes}

@@ -8,10 +8,10 @@ use Rattle.dali_record.proofs.Keeping.{undos_of-kept}
 use Rattle.dali_history.specs.Marked.{kept_of}
 use Rattle.dali_history.specs.Recovered.{base_of}
 use Rattle.dali_history.specs.Undos.{FindsAll, undos_in}
-use Rattle.dali_headline.proofs.AnyOrder.{rolls_back}
-use Rattle.dali_undos.specs.AsLeft.{FindAsLeft}
-use Rattle.dali_undos.proofs.Restarts.{last_on, epoch_undos_find}
-use Rattle.dali_system.specs.Run.{log_in}
+use Rattle.dali_history.proofs.HeadlineLemmas.AnyOrder.{rolls_back}
+use Rattle.dali_history.specs.Undone.AsLeft.{FindAsLeft}
+use Rattle.dali_history.proofs.UndoneLemmas.Restarts.{last_on, epoch_undos_find}
+use Rattle.dali_runs.specs.Run.{log_in}
 use Rattle.dali_crash.proofs.FromImage.{redone_from_image}
 use Rattle.dali_resume.specs.Finding.{WritesAlike, FindsFromImage, FindsInLast, FindsAfterCrash, KeepsUndos}
 use Rattle.dali_resume.proofs.Joined.{kept_at, undoes_alike}

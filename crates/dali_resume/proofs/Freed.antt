@@ -5,12 +5,12 @@ use Rattle.std.specs.List.{AllByRecursion}
 use Rattle.std.proofs.lemmas.List.Sums.{fold_push}
 use Rattle.dali_geometry.specs.Sizes.{Sizes}
 use Rattle.dali_geometry.specs.Places.{formatted_image}
-use Rattle.dali_heap.specs.Cells as cell
-use Rattle.dali_index.specs.Entries as entry
+use Rattle.dali_access.specs.Heap.Cells as cell
+use Rattle.dali_access.specs.Index.Entries as entry
 use Rattle.dali_record.specs.Epochs.{Epoch, cut}
 use Rattle.dali_record.proofs.Ends.{by_push}
 use Rattle.dali_history.specs.Recovered.{free_word, freed, recover}
-use Rattle.dali_headline.proofs.NothingToFree.{recovered-base}
+use Rattle.dali_history.proofs.HeadlineLemmas.NothingToFree.{recovered-base}
 use Rattle.dali_resume.specs.Onward.{RestsFree}
 
 -- ---- one region

@@ -29,3 +29,4 @@ pub mod Numbers
 pub mod Freed
 pub mod OnTheWay
 pub mod Worked
+pub mod InterruptedLemmas

@@ -23,7 +23,7 @@ use Rattle.dali_record.proofs.Scans.{take_get}
 use Rattle.dali_record.proofs.Stages.{IsWithin}
 use Rattle.dali_history.specs.Recovered.{base_of}
 use Rattle.dali_history.proofs.Prefixes.{IsLegalFor-front}
-use Rattle.dali_system.proofs.LastEpochs.{last_epoch-append}
+use Rattle.dali_runs.proofs.LastEpochs.{last_epoch-append}
 use Rattle.dali_crash.specs.Fitting.{FitsWhole}
 use Rattle.dali_crash.proofs.Fitting.{found_is, within_epoch}
 use Rattle.dali_resume.specs.Again.{Outcome}

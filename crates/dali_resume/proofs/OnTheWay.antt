@@ -13,9 +13,9 @@ use Rattle.dali_record.specs.Settled.{redo_all}
 use Rattle.dali_history.specs.Marked.{kept_of}
 use Rattle.dali_history.specs.Recovered.{base_of, recover, IsHonest, AreHonest}
 use Rattle.dali_history.proofs.Prefixes.{sizes_of-front, IsHistory-front}
-use Rattle.dali_headline.proofs.AnyOrder.{rolls_back}
-use Rattle.dali_undos.specs.AsLeft.{IsEpochOn}
-use Rattle.dali_undos.proofs.Restarts.{last_on, epoch_undos_find}
+use Rattle.dali_history.proofs.HeadlineLemmas.AnyOrder.{rolls_back}
+use Rattle.dali_history.specs.Undone.AsLeft.{IsEpochOn}
+use Rattle.dali_history.proofs.UndoneLemmas.Restarts.{last_on, epoch_undos_find}
 use Rattle.dali_resume.specs.Onward.{goes_through}
 use Rattle.dali_resume.specs.OnTheWay.{rewritten_by, WritesOnTheWay, FindThere, FindsOnTheWay, EndsAreHistories}
 use Rattle.dali_resume.proofs.Through.{through}

@@ -26,8 +26,8 @@ use Rattle.dali_history.specs.Recovered.{base_of, freed, losers, recover, roll_b
 use Rattle.dali_history.proofs.Prefixes.{IsLegalFor-front}
 use Rattle.dali_history.proofs.Spelled.{AreSpelled-front}
 use Rattle.dali_history.proofs.Bases.{base_of-restarted}
-use Rattle.dali_counts.proofs.SmallLogs.{next_is_small}
-use Rattle.dali_counts.proofs.Tallies.{numbers_drawn, tallies}
+use Rattle.dali_runs.proofs.CountsLemmas.SmallLogs.{next_is_small}
+use Rattle.dali_runs.proofs.CountsLemmas.Tallies.{numbers_drawn, tallies}
 use Rattle.dali_crash.specs.Fitting.{recover_from}
 use Rattle.dali_resume.specs.Laws.{MayResume, damage_behind}
 use Rattle.dali_resume.specs.Onward.{Going, closed_image, going_next}

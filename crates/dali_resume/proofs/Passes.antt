@@ -25,8 +25,8 @@ use Rattle.dali_record.proofs.Batches.{recovered_restarted, number_is_length}
 use Rattle.dali_record.proofs.EpochRules.{StandsThrough, stands_in_epochs, AllEpochs-contains, format_first, rules_before}
 use Rattle.dali_history.specs.History.{AreSpelled}
 use Rattle.dali_history.proofs.Prefixes.{IsLegalFor-front}
-use Rattle.dali_counts.proofs.Tallies.{tallies, numbers_drawn}
-use Rattle.dali_counts.proofs.SmallLogs.{next_is_small}
+use Rattle.dali_runs.proofs.CountsLemmas.Tallies.{tallies, numbers_drawn}
+use Rattle.dali_runs.proofs.CountsLemmas.SmallLogs.{next_is_small}
 use Rattle.dali_crash.specs.Fitting.{FitsWhole}
 use Rattle.dali_crash.proofs.Fitting.{found_is, within_epoch}
 use Rattle.dali_resume.specs.Resumed.{records_from, damage_from, scan, rolled_by, deleted_by}

@@ -21,7 +21,7 @@ use Rattle.dali_record.proofs.Stages.{IsWithin}
 use Rattle.dali_history.specs.History.{AreSpelled}
 use Rattle.dali_history.specs.Recovered.{base_of, recover}
 use Rattle.dali_history.proofs.Prefixes.{IsLegalFor-front}
-use Rattle.dali_counts.proofs.Tallies.{numbers_drawn, tallies}
+use Rattle.dali_runs.proofs.CountsLemmas.Tallies.{numbers_drawn, tallies}
 use Rattle.dali_crash.specs.Fitting.{FitsWhole}
 use Rattle.dali_crash.proofs.Fitting.{found_is, redoes_the_epoch, within_epoch}
 use Rattle.dali_crash.proofs.FromImage.{recovers_from_image, redone_from_image}

@@ -21,7 +21,7 @@ use Rattle.dali_record.proofs.Tracks.{Tracks}
 use Rattle.dali_record.proofs.Moves.{Moved, begins, alone, works, commits, leaves, frees, ends, moves}
 use Rattle.dali_record.proofs.Stages.{state_from, state_before, IsStart, IsWithin, IsWithin-front, others-touch, others-own, has_committed_push, stage, others-commit}
 use Rattle.dali_record.proofs.Survivors.{StandsIn}
-use Rattle.dali_counts.proofs.Fronts.{none_txn}
+use Rattle.dali_runs.proofs.CountsLemmas.Fronts.{none_txn}
 
 -- ---- what one more record adds
 pub has_begun_push : (E : List Record) (r : Record) (t : ℕ) → has (begun (E ++ r ∷ [])) t ≡ (has (begun E) t || has (begun (r ∷ [])) t)

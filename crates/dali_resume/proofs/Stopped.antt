@@ -6,7 +6,7 @@ use Rattle.std.proofs.lemmas.List.{append-nil, length-append}
 use Rattle.std.proofs.lemmas.List.Concat.{flat_map-append}
 use Rattle.dali_geometry.specs.Places.{formatted_image}
 use Rattle.dali_geometry.specs.Sizes.{Sizes}
-use Rattle.dali_index.proofs.Forms.{formatted_is_image, formatted_is_tidy}
+use Rattle.dali_access.proofs.IndexLemmas.Forms.{formatted_is_image, formatted_is_tidy}
 use Rattle.dali_record.specs.Damage.{deleted_list, rolled_list}
 use Rattle.dali_record.specs.Epochs.{cut, last_epoch, recovered_epoch, recovered_or}
 use Rattle.dali_record.specs.Legal.{IsLegalFor, sizes_of}
@@ -20,13 +20,13 @@ use Rattle.dali_history.proofs.Restarts.{IsHistory-restarted, recovered-same, si
 use Rattle.dali_history.proofs.Bases.{base_of-restarted}
 use Rattle.dali_crash.specs.Fitting.{FitsWhole}
 use Rattle.dali_crash.specs.Starts.{IsRestarted}
-use Rattle.dali_system.specs.Images.{FitsBut}
-use Rattle.dali_system.specs.Run.{log_in}
+use Rattle.dali_runs.specs.Images.{FitsBut}
+use Rattle.dali_runs.specs.Run.{log_in}
 use Rattle.dali_crash.proofs.Fitting.{but_is_whole}
 use Rattle.dali_crash.proofs.Starts.{formatted_fits, fresh_fits}
-use Rattle.dali_headline.proofs.EpochByEpoch.{recovered_holds}
-use Rattle.dali_headline.proofs.Headline.{restart_is_right}
-use Rattle.dali_headline.proofs.NothingToFree.{freed_tidy}
+use Rattle.dali_history.proofs.HeadlineLemmas.EpochByEpoch.{recovered_holds}
+use Rattle.dali_history.proofs.HeadlineLemmas.Headline.{restart_is_right}
+use Rattle.dali_history.proofs.HeadlineLemmas.NothingToFree.{freed_tidy}
 use Rattle.dali_resume.specs.Again.{Outcome, closed_log, closing, outcome_is, turned}
 use Rattle.dali_resume.specs.Onward.{CrashIsAnswered, FormatFits, FormatHandsOut, Going, HandedOut, IsRightAtEnd, RestartsOnward, ResumesHistories, closed_image, formatted_outcome, goes_through, going_at, going_next, hands_on, history_says, image_now, verdict_by, verdict_of}
 use Rattle.dali_resume.specs.Tests.{first_bad, known_at, may_follow}

@@ -9,7 +9,7 @@ use Rattle.std.proofs.lemmas.List.Sums.{fold-append, sum_by-append}
 use Rattle.dali_lists.proofs.Options.{some_of}
 use Rattle.dali_geometry.specs.Places.{formatted_image}
 use Rattle.dali_geometry.specs.Sizes.{Sizes}
-use Rattle.dali_index.proofs.Forms.{formatted_is_image, formatted_is_tidy}
+use Rattle.dali_access.proofs.IndexLemmas.Forms.{formatted_is_image, formatted_is_tidy}
 use Rattle.dali_record.specs.Damage.{deleted_list, rolled_list}
 use Rattle.dali_record.specs.Epochs.{Cut, Epoch, cut, last_epoch, recovered_epoch, separates}
 use Rattle.dali_record.specs.Files.{Files, is_restarted, with_batch}
@@ -24,9 +24,9 @@ use Rattle.dali_history.specs.History.{AreSpelled}
 use Rattle.dali_history.specs.Recovered.{base_of, recover, recovered_now}
 use Rattle.dali_history.proofs.Prefixes.{IsLegalFor-front}
 use Rattle.dali_history.proofs.Spelled.{AreSpelled-front}
-use Rattle.dali_counts.proofs.Tallies.{numbers, numbers_drawn, tallies}
+use Rattle.dali_runs.proofs.CountsLemmas.Tallies.{numbers, numbers_drawn, tallies}
 use Rattle.dali_crash.specs.Fitting.{FitsWhole}
-use Rattle.dali_headline.proofs.NothingToFree.{recover_nothing}
+use Rattle.dali_history.proofs.HeadlineLemmas.NothingToFree.{recover_nothing}
 use Rattle.dali_resume.specs.Again.{Outcome}
 use Rattle.dali_resume.specs.Onward.{FitsFront, Going, HandedOut, IsResumed, ListsAreTested, ResumesThrough, closed_image, goes_through, going_at, going_next, hands_on, image_now, verdict_by}
 use Rattle.dali_resume.specs.Refused.{follows}

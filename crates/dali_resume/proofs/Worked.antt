@@ -1,7 +1,7 @@
 -- The worked restart, by computing.
 use Rattle.std.proofs.Common.{refl}
-use Rattle.dali_heap.specs.Cells as cell
-use Rattle.dali_index.specs.Entries as entry
+use Rattle.dali_access.specs.Heap.Cells as cell
+use Rattle.dali_access.specs.Index.Entries as entry
 use Rattle.dali_resume.specs.Worked.{MiddleRestarts, MisfitsInTheMiddle}
 
 pub middle_restarts : MiddleRestarts

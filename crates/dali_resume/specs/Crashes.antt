@@ -10,8 +10,8 @@ use Rattle.dali_record.specs.Legal.{sizes_of}
 use Rattle.dali_record.specs.Files.{Files}
 use Rattle.dali_history.specs.Recovered.{base_of, recovered}
 use Rattle.dali_history.specs.History.{IsHistory, RestartGives}
-use Rattle.dali_system.specs.State.{CoreState}
-use Rattle.dali_system.specs.Run.{log_in}
+use Rattle.dali_runs.specs.State.{CoreState}
+use Rattle.dali_runs.specs.Run.{log_in}
 use Rattle.dali_crash.specs.Fitting.{FitsWhole}
 use Rattle.dali_crash.specs.StoreRuns.{CrashIsRightWith}
 use Rattle.dali_resume.specs.Tests.{known_at, tests}

@@ -18,9 +18,9 @@ use Rattle.dali_history.specs.History.{AreSpelled, IsHistory}
 use Rattle.dali_history.specs.Marked.{marks_of, kept_of}
 use Rattle.dali_history.specs.Recovered.{base_of, losers}
 use Rattle.dali_history.specs.Undos.{FindsAll, undos_in}
-use Rattle.dali_undos.specs.AsLeft.{FindAsLeft, IsEpochOn}
-use Rattle.dali_system.specs.State.{CoreState}
-use Rattle.dali_system.specs.Run.{log_in}
+use Rattle.dali_history.specs.Undone.AsLeft.{FindAsLeft, IsEpochOn}
+use Rattle.dali_runs.specs.State.{CoreState}
+use Rattle.dali_runs.specs.Run.{log_in}
 use Rattle.dali_crash.specs.Fitting.{FitsWhole}
 use Rattle.dali_crash.specs.StoreRuns.{CrashIsRightWith}
 use Rattle.dali_resume.specs.Resumed.{records_from, losers_by}

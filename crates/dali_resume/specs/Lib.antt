@@ -13,3 +13,4 @@ pub mod Batches
 pub mod Numbers
 pub mod OnTheWay
 pub mod Worked
+pub mod Interrupted

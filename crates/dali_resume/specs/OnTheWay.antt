@@ -16,7 +16,7 @@ use Rattle.dali_history.specs.History.{AreSpelled, IsHistory}
 use Rattle.dali_history.specs.Marked.{marks_of, kept_of}
 use Rattle.dali_history.specs.Recovered.{base_of, losers}
 use Rattle.dali_history.specs.Undos.{FindsAll, undos_in}
-use Rattle.dali_undos.specs.AsLeft.{FindAsLeft}
+use Rattle.dali_history.specs.Undone.AsLeft.{FindAsLeft}
 use Rattle.dali_resume.specs.Resumed.{damage_from, scan}
 use Rattle.dali_resume.specs.Onward.{FitsFront, Going, goes_through}
 

@@ -40,8 +40,8 @@ use Rattle.dali_record.specs.Settled.{redo_all}
 use Rattle.dali_record.specs.Files.{Files, Row, is_restarted, next_after}
 use Rattle.dali_history.specs.Recovered.{base_of, recovered, roll_back, freed}
 use Rattle.dali_history.specs.History.{AreSpelled, IsHistory, RestartGives}
-use Rattle.dali_system.specs.State.{CoreState}
-use Rattle.dali_system.specs.Run.{log_in}
+use Rattle.dali_runs.specs.State.{CoreState}
+use Rattle.dali_runs.specs.Run.{log_in}
 use Rattle.dali_crash.specs.StoreRuns.{CrashIsRightWith}
 use Rattle.dali_crash.specs.Fitting.{FitsWhole}
 use Rattle.dali_crash.specs.Starts.{IsFormatted}

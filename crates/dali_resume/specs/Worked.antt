@@ -5,7 +5,7 @@
 --     MiddleRestarts           no record is named; the change is taken back at the Restarted, and so at the end; 3's own records are all of the last epoch
 --     MisfitsInTheMiddle       a Restarted that names nobody, or 2 as deleted, is named, and so is a change of 2 in the later epoch
 use Rattle.std.specs.Prelude.{◌≡◌, ℕ, false, List, [], ◌∷◌, ◌++◌, Some, None}
-use Rattle.dali_index.specs.Records.{records}
+use Rattle.dali_access.specs.Index.Records.{records}
 use Rattle.dali_record.specs.declared.operations.Block.{Block}
 use Rattle.dali_record.specs.declared.operations.Op.TheVariants.{Look, Add, Put, Read, Change}
 use Rattle.dali_record.specs.declared.operations.Outcome.TheVariants.{Found, Absent, Added, Put as PutIn, Value, Changed}

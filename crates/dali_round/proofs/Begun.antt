@@ -7,7 +7,7 @@ use Rattle.std.proofs.lemmas.List.Elements.{Contains-append_right, Contains-appe
 use Rattle.dali_geometry.specs.Sizes.{Sizes}
 use Rattle.dali_record.specs.declared.records.Record.TheVariants.{Begin}
 use Rattle.dali_record.specs.Legal.{rules_state}
-use Rattle.dali_counts.proofs.Begins.{one_begin}
+use Rattle.dali_runs.proofs.CountsLemmas.Begins.{one_begin}
 use Rattle.dali_transcripts.specs.Words.{closes}
 use Rattle.dali_transcripts.specs.World.{Logs, World, log_of}
 use Rattle.dali_transcripts.specs.Moves.{Receipt, Place, Outside, LeftOut, Within, Spot, Move, Begins, BeginsAgain, Skips, Answers, IsRefusedCall, IsArmed, from, own, to, start}

@@ -5,18 +5,19 @@ use Rattle.dali_record.specs.declared.records.Record.{Record}
 use Rattle.dali_record.specs.Files.{Files}
 use Rattle.dali_region.specs.State.{RegionState}
 use Rattle.dali_store.specs.Store.{Files as Disk}
-use Rattle.dali_system.specs.State.{SystemState, log_after}
+use Rattle.dali_store.specs.declared.store.Store.{Ghosts}
+use Rattle.dali_runs.specs.State.{SystemState, log_after}
 use Rattle.dali_crash.specs.Checkpoints.{Point, StoreStep, IsPointCourse}
 use Rattle.dali_crash.specs.Traces.{Start}
-use Rattle.dali_traces.specs.Bridges.{LeavesRightAt}
-use Rattle.dali_vault.specs.Vaulted.{Vaulted}
-use Rattle.dali_whole.specs.Cores.{IsNoShorter}
-use Rattle.dali_whole.specs.Moments.{Within}
-use Rattle.dali_whole.proofs.Moments.{leaves_more, leaves_both}
-use Rattle.dali_whole.proofs.Lengths.{no_shorter_tells}
+use Rattle.dali_crash.specs.Disks.Bridges.{LeavesRightAt}
+use Rattle.dali_core.specs.Vault.Vaulted.{Vaulted}
+use Rattle.dali_core.specs.Cores.{IsNoShorter}
+use Rattle.dali_core.specs.Moments.{Within}
+use Rattle.dali_core.proofs.Moments.{leaves_more, leaves_both}
+use Rattle.dali_core.proofs.Lengths.{no_shorter_tells}
 use Rattle.dali_checkpoint.proofs.Moments.{each_told, there as at_told, no_call}
 use Rattle.dali_checkpoint.proofs.Calls.{course_join}
-use Rattle.dali_ends.specs.Stands.{StandsAt}
+use Rattle.dali_transactions.specs.Stands.{StandsAt}
 use Rattle.dali_turns.specs.declared.client.Client.{Client}
 use Rattle.dali_turns.specs.Moments.{LeavesHere, LeavesUpTo, TurnLeavesRight}
 use Rattle.dali_turns.proofs.Moments.{course_log, crash_right}
@@ -90,20 +91,20 @@ pub here_between : (s : Start) (p q : Point) (gs : List RegionState) (xs : List 
 here_between s p q gs xs regions course c D =
     let on = course_log p q xs course in (D.0, D.1, from_first s p q D.2.to xs D.2.steps on.0 D.0 course D.2.course (D.2.regions ∙ sym regions) (ap (λ l. l ++ on.0) D.2.same ∙ on.1) D.2.right)
 
-module _ {V : Type 0} (told : V → Option Disk) (may_leave : V → Disk → Type 0) (faults : V → ℕ) (moment : V → ℕ) (left_since : V → ℕ → Disk → Type 0) where
-  pub map_left : (v u : Vaulted V) (P Q : Disk → Type 0) → ((c : Disk) → P c → Q c) → Within told moment left_since v u P → Within told moment left_since v u Q
-  map_left v u P Q more within = each_told (told v.store) _ (λ e. leaves_more moment left_since v.store u.store P Q more (at_told (told v.store) _ e within))
+module _ {V : Type 0} (means : Ghosts V) where
+  pub map_left : (v u : Vaulted V) (P Q : Disk → Type 0) → ((c : Disk) → P c → Q c) → Within means.told means.moment means.left_since v u P → Within means.told means.moment means.left_since v u Q
+  map_left v u P Q more within = each_told (means.told v.store) _ (λ e. leaves_more means.moment means.left_since v.store u.store P Q more (at_told (means.told v.store) _ e within))
 
-  pub between_both : (s : Start) (p q r : Point) (xs ys : List StoreStep) (v u t : Vaulted V) → IsPointCourse p xs q → IsPointCourse q ys r → IsNoShorter told v u
-      → Within told moment left_since v u (LeavesBetween s p q) → Within told moment left_since u t (LeavesBetween s q r) → Within told moment left_since v t (LeavesBetween s p r)
-  between_both s p q r xs ys v u t one two longer first last = each_told (told v.store) _ (λ e.
-      leaves_both moment left_since v.store u.store t.store (LeavesBetween s p q) (LeavesBetween s q r) (LeavesBetween s p r) (go_to s p q r ys two) (come_from s p q r xs one)
-      (at_told (told v.store) _ e first)
-      (at_told (told u.store) _ (no_shorter_tells (told v.store) (told u.store) longer ∙ e) last))
+  pub between_both : (s : Start) (p q r : Point) (xs ys : List StoreStep) (v u t : Vaulted V) → IsPointCourse p xs q → IsPointCourse q ys r → IsNoShorter means.told v u
+      → Within means.told means.moment means.left_since v u (LeavesBetween s p q) → Within means.told means.moment means.left_since u t (LeavesBetween s q r) → Within means.told means.moment means.left_since v t (LeavesBetween s p r)
+  between_both s p q r xs ys v u t one two longer first last = each_told (means.told v.store) _ (λ e.
+      leaves_both means.moment means.left_since v.store u.store t.store (LeavesBetween s p q) (LeavesBetween s q r) (LeavesBetween s p r) (go_to s p q r ys two) (come_from s p q r xs one)
+      (at_told (means.told v.store) _ e first)
+      (at_told (means.told u.store) _ (no_shorter_tells (means.told v.store) (means.told u.store) longer ∙ e) last))
 
   -- where the core stands behind steps
-  pub ends_right : (s : Start) (B : List (List Record)) (p q : Point) (steps : List StoreStep) (hs : List RegionState) (z : SystemState) (v u : Vaulted V) → StandsAt told may_leave faults s B q hs z u → IsPointCourse p steps q
-      → Within told moment left_since v u (LeavesBetween s p q) → EndsRight told moment left_since s p v hs z u
+  pub ends_right : (s : Start) (B : List (List Record)) (p q : Point) (steps : List StoreStep) (hs : List RegionState) (z : SystemState) (v u : Vaulted V) → StandsAt means s B q hs z u → IsPointCourse p steps q
+      → Within means.told means.moment means.left_since v u (LeavesBetween s p q) → EndsRight means.told means.moment means.left_since s p v hs z u
   ends_right s B p q steps hs z v u stands course within = record {
     to = q;
     steps = steps;
@@ -114,16 +115,16 @@ module _ {V : Type 0} (told : V → Option Disk) (may_leave : V → Disk → Typ
   }
 
   -- no call of the store was made
-  pub still_left : (s : Start) (B : List (List Record)) (p : Point) (gs : List RegionState) (y : SystemState) (v : Vaulted V) → ((c : Disk) → left_since v.store (moment v.store) c → may_leave v.store c)
-      → StandsAt told may_leave faults s B p gs y v → Within told moment left_since v v (LeavesBetween s p p)
-  still_left s B p gs y v now stands = each_told (told v.store) _ (λ e. leaves_more moment left_since v.store v.store (may_leave v.store) (LeavesBetween s p p)
-      (λ c left. let D = at_told (told v.store) _ e (crash_right told may_leave faults s B p gs y v stands) c left in
+  pub still_left : (s : Start) (B : List (List Record)) (p : Point) (gs : List RegionState) (y : SystemState) (v : Vaulted V) → ((c : Disk) → means.left_since v.store (means.moment v.store) c → means.may_leave v.store c)
+      → StandsAt means s B p gs y v → Within means.told means.moment means.left_since v v (LeavesBetween s p p)
+  still_left s B p gs y v now stands = each_told (means.told v.store) _ (λ e. leaves_more means.moment means.left_since v.store v.store (means.may_leave v.store) (LeavesBetween s p p)
+      (λ c left. let D = at_told (means.told v.store) _ e (crash_right means s B p gs y v stands) c left in
       (D.0, D.1, record { between = p; before = []; comes = refl; behind = []; goes = refl; to = p; steps = []; course = refl; regions = refl; rest = []; log = append-nil p.log; right = D.2 }))
-      (at_told (told v.store) _ e (no_call told may_leave faults moment left_since v v (may_leave v.store) now refl (λ c left. left))))
+      (at_told (means.told v.store) _ e (no_call means v v (means.may_leave v.store) now refl (λ c left. left))))
 
   -- nor of a turn that wasn't made
-  pub stays_right : (precheck : Bool) (k : Client) (gs : List RegionState) (y : SystemState) (v : Vaulted V) → ((c : Disk) → left_since v.store (moment v.store) c → may_leave v.store c) → TurnLeavesRight told may_leave faults moment left_since precheck k gs y v y v
-  stays_right precheck k gs y v now s B p w a stood is fits = each_told (told v.store) _ (λ e. leaves_more moment left_since v.store v.store (may_leave v.store) (LeavesUpTo s p gs y)
-      (λ c left. let D = at_told (told v.store) _ e (crash_right told may_leave faults s B p gs y v stood.stands) c left in
+  pub stays_right : (precheck : Bool) (k : Client) (gs : List RegionState) (y : SystemState) (v : Vaulted V) → ((c : Disk) → means.left_since v.store (means.moment v.store) c → means.may_leave v.store c) → TurnLeavesRight means precheck k gs y v y v
+  stays_right precheck k gs y v now s B p w a stood is fits = each_told (means.told v.store) _ (λ e. leaves_more means.moment means.left_since v.store v.store (means.may_leave v.store) (LeavesUpTo s p gs y)
+      (λ c left. let D = at_told (means.told v.store) _ e (crash_right means s B p gs y v stood.stands) c left in
       (D.0, D.1, record { to = p; steps = []; course = refl; log = ([], append-nil p.log ∙ (stood.stands.at.vault.run.run.log ∙ ap (log_after s.log) stood.stands.at.system)); regions = stood.stands.at.regions; right = D.2 }))
-      (at_told (told v.store) _ e (no_call told may_leave faults moment left_since v v (may_leave v.store) now refl (λ c left. left))))
+      (at_told (means.told v.store) _ e (no_call means v v (means.may_leave v.store) now refl (λ c left. left))))

@@ -9,11 +9,12 @@ use Rattle.dali_locks.specs.Locks.{IsAnswer}
 use Rattle.dali_att.specs.declared.state.State.{State as TxnState}
 use Rattle.dali_att.specs.declared.state.State.TheVariants.{Live, Dead, Cleaning, Committed}
 use Rattle.dali_store.specs.Store.{Files as Disk}
-use Rattle.dali_system.specs.State.{TxnRow, SystemState, row_of, state_of, state_in, lock_of}
-use Rattle.dali_facts.proofs.OlderRows.{rows_are_older}
+use Rattle.dali_store.specs.declared.store.Store.{Ghosts}
+use Rattle.dali_runs.specs.State.{TxnRow, SystemState, row_of, state_of, state_in, lock_of}
+use Rattle.dali_runs.proofs.FactsLemmas.OlderRows.{rows_are_older}
 use Rattle.dali_crash.specs.Checkpoints.{Point}
 use Rattle.dali_crash.specs.Traces.{Start, bases_of}
-use Rattle.dali_vault.specs.Vaulted.{Vaulted}
+use Rattle.dali_core.specs.Vault.Vaulted.{Vaulted}
 use Rattle.dali_transcripts.specs.World.{is_dead_in, is_claimed_in}
 use Rattle.dali_transcripts.specs.Transcripts.{Told}
 use Rattle.dali_calls.specs.Steps.{call_key}
@@ -27,8 +28,8 @@ use Rattle.dali_turns.specs.Waits.{Waits, MakesNone}
 use Rattle.dali_turns.proofs.Busied.{open_one}
 use Rattle.dali_round.specs.Idle.{AreIdle}
 use Rattle.dali_round.specs.Played.{Played, AreOver, EachIsOwned}
-use Rattle.dali_rounds.specs.Went.{is_open}
-use Rattle.dali_rounds.proofs.Going.{open_row}
+use Rattle.dali_transactions.specs.Beside.Went.{is_open}
+use Rattle.dali_transactions.proofs.BesideLemmas.Going.{open_row}
 
 -- ---- rows
 row_state : (o : Option TxnRow) → IsSome o → is_some (state_in o) ≡ true
@@ -114,8 +115,8 @@ module _ (y : SystemState) (ks : List Client) (owned : EachIsOwned ks y) (idle :
       (idle i k at)
 
 -- ---- the round
-module _ {V : Type 0} (told : V → Option Disk) (may_leave : V → Disk → Type 0) (faults : V → ℕ) (precheck : Bool) (s : Start) (p : Point) (bs : List Told) (ks : List Client) (gs : List RegionState) (y : SystemState) (v : Vaulted V)
-    (played : Played told may_leave faults true precheck s p bs ks gs y v) where
+module _ {V : Type 0} (means : Ghosts V) (precheck : Bool) (s : Start) (p : Point) (bs : List Told) (ks : List Client) (gs : List RegionState) (y : SystemState) (v : Vaulted V)
+    (played : Played means true precheck s p bs ks gs y v) where
   rows_there : y.stop ≡ None → Rows y
   rows_there runs =
       let run = played.stood.stands.at.vault.run.run.run.runs in

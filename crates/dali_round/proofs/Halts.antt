@@ -5,16 +5,17 @@ use Rattle.std.proofs.lemmas.Bool.{cases_lt}
 use Rattle.std.proofs.lemmas.List.{append-nil}
 use Rattle.std.proofs.lemmas.Option.{slice_get_within}
 use Rattle.dali_lists.proofs.Lists.{set_same}
-use Rattle.dali_counts.proofs.Lists.{equal, same_number, some_same}
+use Rattle.dali_runs.proofs.CountsLemmas.Lists.{equal, same_number, some_same}
 use Rattle.dali_region.specs.State.{RegionState}
 use Rattle.dali_store.specs.Store.{Files as Disk}
-use Rattle.dali_system.specs.State.{SystemState}
+use Rattle.dali_runs.specs.State.{SystemState}
 use Rattle.dali_record.specs.declared.records.Record.{Record}
+use Rattle.dali_store.specs.declared.store.Store.{Ghosts}
 use Rattle.dali_crash.specs.Checkpoints.{Point, StoreStep, IsPointCourse}
 use Rattle.dali_crash.specs.Traces.{Start}
-use Rattle.dali_vault.specs.Vaulted.{Vaulted}
-use Rattle.dali_whole.specs.Cores.{IsNoShorter}
-use Rattle.dali_whole.specs.Moments.{Within}
+use Rattle.dali_core.specs.Vault.Vaulted.{Vaulted}
+use Rattle.dali_core.specs.Cores.{IsNoShorter}
+use Rattle.dali_core.specs.Moments.{Within}
 use Rattle.dali_checkpoint.proofs.Calls.{course_join}
 use Rattle.dali_transcripts.specs.World.{World}
 use Rattle.dali_transcripts.specs.Transcripts.{Told}
@@ -35,12 +36,12 @@ use Rattle.dali_round.proofs.Places.{at_spot, owns_within}
 use Rattle.dali_round.proofs.Between.{here_between, map_left, between_both, ends_right, still_left}
 use Rattle.dali_round.proofs.Seats.{client_apart, speaks_on, same_numbers, legal, halting_by}
 
-module _ {V : Type 0} (told : V → Option Disk) (may_leave : V → Disk → Type 0) (faults : V → ℕ) (precheck : Bool) (s : Start) (p : Point) (bs : List Told) (ks : List Client) where
+module _ {V : Type 0} (means : Ghosts V) (precheck : Bool) (s : Start) (p : Point) (bs : List Told) (ks : List Client) where
   -- the same round, with something else said of its clients
   abbrev seated_so : (IsAt IsSo : ℕ → Start → List (List Record) → Point → World → List RegionState → SystemState → Vaulted V → Standing → Client → Type 0) (Owned AreOwned : Type 0)
-      (gs : List RegionState) (y : SystemState) (v : Vaulted V) (h : PlayedSo told may_leave faults IsAt Owned precheck s p bs ks gs y v)
+      (gs : List RegionState) (y : SystemState) (v : Vaulted V) (h : PlayedSo means IsAt Owned precheck s p bs ks gs y v)
       → ((i : ℕ) (a : Standing) (k : Client) → slice_get h.standings i ≡ Some a → slice_get ks i ≡ Some k → IsSo i s h.batches h.to h.world gs y v a k) → AreOwned
-      → PlayedSo told may_leave faults IsSo AreOwned precheck s p bs ks gs y v
+      → PlayedSo means IsSo AreOwned precheck s p bs ks gs y v
   seated_so IsAt IsSo Owned AreOwned gs y v h seats owned = record {
     are = h.are;
     log = h.log;
@@ -61,16 +62,16 @@ module _ {V : Type 0} (told : V → Option Disk) (may_leave : V → Disk → Typ
   }
 
   -- a round between two steps makes none more
-  pub may_halt : (gs : List RegionState) (y : SystemState) (v : Vaulted V) → Played told may_leave faults true precheck s p bs ks gs y v → Halting told may_leave faults 0 precheck s p bs ks gs y v
-  may_halt gs y v f = seated_so (λ (i : ℕ). IsSeated told may_leave faults true) (IsHalting told may_leave faults 0) (true ≡ true → EachIsOwned ks y) ⊤ gs y v f (λ i a k at_a at_k. inr (omega arith, f.seats i a k at_a at_k)) tt
+  pub may_halt : (gs : List RegionState) (y : SystemState) (v : Vaulted V) → Played means true precheck s p bs ks gs y v → Halting means 0 precheck s p bs ks gs y v
+  may_halt gs y v f = seated_so (λ (i : ℕ). IsSeated means true) (IsHalting means 0) (true ≡ true → EachIsOwned ks y) ⊤ gs y v f (λ i a k at_a at_k. inr (omega arith, f.seats i a k at_a at_k)) tt
 
-  pub may_halt_to : (gs : List RegionState) (y : SystemState) (v : Vaulted V) (f : Played told may_leave faults true precheck s p bs ks gs y v) → (may_halt gs y v f).to ≡ f.to
+  pub may_halt_to : (gs : List RegionState) (y : SystemState) (v : Vaulted V) (f : Played means true precheck s p bs ks gs y v) → (may_halt gs y v f).to ≡ f.to
   unfolding may_halt
   may_halt_to gs y v f = refl
 
   -- and all were asked
-  pub has_halted : (upto : ℕ) (gs : List RegionState) (y : SystemState) (v : Vaulted V) → length ks ≤ upto → Halting told may_leave faults upto precheck s p bs ks gs y v → Played told may_leave faults false precheck s p bs ks gs y v
-  has_halted upto gs y v all h = seated_so (IsHalting told may_leave faults upto) (λ (i : ℕ). IsSeated told may_leave faults false) ⊤ (false ≡ true → EachIsOwned ks y) gs y v h
+  pub has_halted : (upto : ℕ) (gs : List RegionState) (y : SystemState) (v : Vaulted V) → length ks ≤ upto → Halting means upto precheck s p bs ks gs y v → Played means false precheck s p bs ks gs y v
+  has_halted upto gs y v all h = seated_so (IsHalting means upto) (λ (i : ℕ). IsSeated means false) ⊤ (false ≡ true → EachIsOwned ks y) gs y v h
       (λ i a k at_a at_k.
       ⊎_elim
       (λ cut. cut.1)
@@ -79,12 +80,12 @@ module _ {V : Type 0} (told : V → Option Disk) (may_leave : V → Disk → Typ
       (λ e. absurd (cc))
 
 -- ---- one is asked
-module _ {V : Type 0} (told : V → Option Disk) (may_leave : V → Disk → Type 0) (faults : V → ℕ) (moment : V → ℕ) (left_since : V → ℕ → Disk → Type 0) (precheck : Bool) (s : Start) (p : Point) (bs : List Told) (ks : List Client) where
-  module _ (i : ℕ) (k : Client) (at_k : slice_get ks i ≡ Some k) (gs : List RegionState) (y : SystemState) (v : Vaulted V) (h : Halting told may_leave faults i precheck s p bs ks gs y v) where
+module _ {V : Type 0} (means : Ghosts V) (precheck : Bool) (s : Start) (p : Point) (bs : List Told) (ks : List Client) where
+  module _ (i : ℕ) (k : Client) (at_k : slice_get ks i ≡ Some k) (gs : List RegionState) (y : SystemState) (v : Vaulted V) (h : Halting means i precheck s p bs ks gs y v) where
     -- steps lead to where it was asked
     abbrev Asks : List Client → List RegionState → SystemState → Vaulted V → Type 0
     Asks js hs z u =
-        (j : Halting told may_leave faults (i + 1) precheck s p bs js hs z u) × (steps : List StoreStep) × IsPointCourse h.to steps j.to × Within told moment left_since v u (LeavesBetween s h.to j.to)
+        (j : Halting means (i + 1) precheck s p bs js hs z u) × (steps : List StoreStep) × IsPointCourse h.to steps j.to × Within means.told means.moment means.left_since v u (LeavesBetween s h.to j.to)
 
     there : (a : Standing) × (slice_get h.standings i ≡ Some a)
     there = with_length h.standings ks i k h.count at_k
@@ -93,43 +94,43 @@ module _ {V : Type 0} (told : V → Option Disk) (may_leave : V → Disk → Typ
     later n less apart = ⊎_elim (λ more. omega (arith, more)) (λ upto. absurd (apart (omega (arith, upto, less)))) (cases_lt i n)
 
     -- one that is gone has nothing to end
-    gone_goes : (i ≤ i → k.state ≡ Gone) × IsSeated told may_leave faults false s h.batches h.to h.world gs y v there.0 k → Halting told may_leave faults (i + 1) precheck s p bs ks gs y v
-    gone_goes own = seated_so told may_leave faults precheck s p bs ks (IsHalting told may_leave faults i) (IsHalting told may_leave faults (i + 1)) ⊤ ⊤ gs y v h (λ n a l at_a at_l. by_test n a l at_a at_l (n == i) refl) tt
+    gone_goes : (i ≤ i → k.state ≡ Gone) × IsSeated means false s h.batches h.to h.world gs y v there.0 k → Halting means (i + 1) precheck s p bs ks gs y v
+    gone_goes own = seated_so means precheck s p bs ks (IsHalting means i) (IsHalting means (i + 1)) ⊤ ⊤ gs y v h (λ n a l at_a at_l. by_test n a l at_a at_l (n == i) refl) tt
       where
-        by_test : (n : ℕ) (a : Standing) (l : Client) → slice_get h.standings n ≡ Some a → slice_get ks n ≡ Some l → (b : Bool) → (n == i) ≡ b → IsHalting told may_leave faults (i + 1) n s h.batches h.to h.world gs y v a l
+        by_test : (n : ℕ) (a : Standing) (l : Client) → slice_get h.standings n ≡ Some a → slice_get ks n ≡ Some l → (b : Bool) → (n == i) ≡ b → IsHalting means (i + 1) n s h.batches h.to h.world gs y v a l
         by_test n a l at_a at_l true e =
             let same = equal n i e in
             let client : k ≡ l = some_same (sym at_k ∙ (ap (slice_get ks) (sym same) ∙ at_l)) in
             let standing : there.0 ≡ a = some_same (sym there.1 ∙ (ap (slice_get h.standings) (sym same) ∙ at_a)) in
-            inl (λ more. absurd (omega (arith, more, same)), subst (λ c. IsSeated told may_leave faults false s h.batches h.to h.world gs y v a c) client (subst (λ c. IsSeated told may_leave faults false s h.batches h.to h.world gs y v c k) standing own.1))
+            inl (λ more. absurd (omega (arith, more, same)), subst (λ c. IsSeated means false s h.batches h.to h.world gs y v a c) client (subst (λ c. IsSeated means false s h.batches h.to h.world gs y v c k) standing own.1))
         by_test n a l at_a at_l false e =
             ⊎_elim
             (λ cut. inl (λ more. cut.0 (omega (arith, more)), cut.1))
             (λ still. inr (later n still.0 (λ same. let yes : (n == i) ≡ true = same_number n i same in let no : true ≡ false = sym yes ∙ e in absurd (cc)), still.1))
             (h.seats n a l at_a at_l)
 
-    gone_to : (own : (i ≤ i → k.state ≡ Gone) × IsSeated told may_leave faults false s h.batches h.to h.world gs y v there.0 k) → (gone_goes own).to ≡ h.to
+    gone_to : (own : (i ≤ i → k.state ≡ Gone) × IsSeated means false s h.batches h.to h.world gs y v there.0 k) → (gone_goes own).to ≡ h.to
     unfolding gone_goes
     gone_to own = refl
 
-    gone_asks : ((c : Disk) → left_since v.store (moment v.store) c → may_leave v.store c) → (i ≤ i → k.state ≡ Gone) × IsSeated told may_leave faults false s h.batches h.to h.world gs y v there.0 k → Asks ks gs y v
+    gone_asks : ((c : Disk) → means.left_since v.store (means.moment v.store) c → means.may_leave v.store c) → (i ≤ i → k.state ≡ Gone) × IsSeated means false s h.batches h.to h.world gs y v there.0 k → Asks ks gs y v
     gone_asks now own =
         let same : h.to ≡ (gone_goes own).to = sym (gone_to own) in (
           gone_goes own,
           [],
           same,
-          subst (λ (q : Point). Within told moment left_since v v (LeavesBetween s h.to q)) same (still_left told may_leave faults moment left_since s h.batches h.to gs y v now h.stood.stands),
+          subst (λ (q : Point). Within means.told means.moment means.left_since v v (LeavesBetween s h.to q)) same (still_left means s h.batches h.to gs y v now h.stood.stands),
         )
 
     -- another one stands still
-    module _ (hs : List RegionState) (z : SystemState) (u : Vaulted V) (halts : HaltGoes told may_leave faults k gs y v hs z u) (leaves : HaltLeavesRight told may_leave faults moment left_since gs y v u) (seat : IsSeated told may_leave faults true s h.batches h.to h.world gs y v there.0 k) where
-      abbrev one : Halted told may_leave faults precheck k.state s h.batches h.to h.world there.0 k gs y v hs z u
+    module _ (hs : List RegionState) (z : SystemState) (u : Vaulted V) (halts : HaltGoes means k gs y v hs z u) (leaves : HaltLeavesRight means gs y v u) (seat : IsSeated means true s h.batches h.to h.world gs y v there.0 k) where
+      abbrev one : Halted means precheck k.state s h.batches h.to h.world there.0 k gs y v hs z u
       one = halts precheck k.state s h.batches h.to h.world there.0 h.stood seat.is seat.came
 
-      abbrev g : Went told may_leave faults precheck s h.batches h.to h.world there.0 k.state gs y v false k hs z u
+      abbrev g : Went means precheck s h.batches h.to h.world there.0 k.state gs y v false k hs z u
       g = one.went
 
-      others : (n : ℕ) (b : Standing) (l : Client) → slice_get h.standings n ≡ Some b → slice_get ks n ≡ Some l → (n ≡ i → ⊥) → IsHalting told may_leave faults (i + 1) n s g.batches g.to g.world hs z u b l
+      others : (n : ℕ) (b : Standing) (l : Client) → slice_get h.standings n ≡ Some b → slice_get ks n ≡ Some l → (n ≡ i → ⊥) → IsHalting means (i + 1) n s g.batches g.to g.world hs z u b l
       others n b l at_b at_l apart = ⊎_elim
           (λ cut. inl (
             λ more. cut.0 (omega (arith, more)),
@@ -144,11 +145,11 @@ module _ {V : Type 0} (told : V → Option Disk) (may_leave : V → Disk → Typ
             record {
               is = speaks_on h.world g.world there.0 h.to g.to g.deeds g.goes b l other still.1.is;
               came =
-                  others_fit told may_leave faults l.state k.state s h.batches g.batches h.to g.to h.world g.world gs hs y z v u precheck b there.0 (rest_of l) g.deeds h.stood g.stood still.1.is.stands seat.is.stands still.1.came
-                  (at_spot told may_leave faults s h.batches h.to h.world gs y v there.0 (rest_of k) k.state seat.came) (λ e. other (sym e)) (λ t mine yours. other (sym (in_one _ h.world b there.0 t
-                  (legal told may_leave faults precheck s h.world h.to h.batches gs y v h.stood) still.1.is.stands seat.is.stands
-                  (owns_within told may_leave faults s h.batches h.to h.world gs y v b (rest_of l) l.state t still.1.came mine)
-                  (owns_within told may_leave faults s h.batches h.to h.world gs y v there.0 (rest_of k) k.state t seat.came yours)))) g.goes g.others;
+                  others_fit means l.state k.state s h.batches g.batches h.to g.to h.world g.world gs hs y z v u precheck b there.0 (rest_of l) g.deeds h.stood g.stood still.1.is.stands seat.is.stands still.1.came
+                  (at_spot means s h.batches h.to h.world gs y v there.0 (rest_of k) k.state seat.came) (λ e. other (sym e)) (λ t mine yours. other (sym (in_one _ h.world b there.0 t
+                  (legal means precheck s h.world h.to h.batches gs y v h.stood) still.1.is.stands seat.is.stands
+                  (owns_within means s h.batches h.to h.world gs y v b (rest_of l) l.state t still.1.came mine)
+                  (owns_within means s h.batches h.to h.world gs y v there.0 (rest_of k) k.state t seat.came yours)))) g.goes g.others;
               receipts = still.1.receipts ∙ sym (same_numbers h.world g.world there.0 h.to g.to g.deeds g.goes b l other still.1.is);
             },
           ))
@@ -157,9 +158,9 @@ module _ {V : Type 0} (told : V → Option Disk) (may_leave : V → Disk → Typ
           other : there.0.client ≡ b.client → ⊥
           other = client_apart bs h.are h.standings h.blocks i there.0 there.1 n b at_b apart
 
-      still_at : Halting told may_leave faults (i + 1) precheck s p bs (slice_set ks i k) hs z u
+      still_at : Halting means (i + 1) precheck s p bs (slice_set ks i k) hs z u
       still_at =
-          halting_by told may_leave faults precheck s p bs ks gs y v h.are h.log h.to h.batches h.steps h.course h.world h.old_is h.before_is h.owners h.standings h.blocks h.count i there.0 k there.1 at_k
+          halting_by means precheck s p bs ks gs y v h.are h.log h.to h.batches h.steps h.course h.world h.old_is h.before_is h.owners h.standings h.blocks h.count i there.0 k there.1 at_k
           g.batches g.to g.steps g.course g.deeds g.world g.goes hs z u g.stood g.standing k g.client g.acts (i + 1)
           (inl (λ more. absurd (omega (arith, more)), record { is = g.is; came = g.came; receipts = ([], one.numbers ∙ (sym seat.receipts ∙ sym (append-nil k.transcript.receipts))) }))
           others
@@ -175,11 +176,11 @@ module _ {V : Type 0} (told : V → Option Disk) (may_leave : V → Disk → Typ
             still_at,
             g.steps,
             subst (λ (q : Point). IsPointCourse h.to g.steps q) same g.course,
-            subst (λ (q : Point). Within told moment left_since v u (LeavesBetween s h.to q)) same
-                (map_left told may_leave faults moment left_since v u (LeavesHere s h.to gs) (LeavesBetween s h.to g.to) (here_between s h.to g.to gs g.steps h.stood.stands.at.regions g.course) (leaves precheck s h.batches h.to h.world h.stood)),
+            subst (λ (q : Point). Within means.told means.moment means.left_since v u (LeavesBetween s h.to q)) same
+                (map_left means v u (LeavesHere s h.to gs) (LeavesBetween s h.to g.to) (here_between s h.to g.to gs g.steps h.stood.stands.at.regions g.course) (leaves precheck s h.batches h.to h.world h.stood)),
           ))
 
-    pub one_asks : (hs : List RegionState) (z : SystemState) (u : Vaulted V) → ((c : Disk) → left_since v.store (moment v.store) c → may_leave v.store c) → HaltGoes told may_leave faults k gs y v hs z u → HaltLeavesRight told may_leave faults moment left_since gs y v u
+    pub one_asks : (hs : List RegionState) (z : SystemState) (u : Vaulted V) → ((c : Disk) → means.left_since v.store (means.moment v.store) c → means.may_leave v.store c) → HaltGoes means k gs y v hs z u → HaltLeavesRight means gs y v u
         → (k.state ≡ Gone → (hs ≡ gs) × (z ≡ y) × (u ≡ v)) → Asks ks hs z u
     one_asks hs z u now halts leaves gone = ⊎_elim
         (λ own.
@@ -191,21 +192,21 @@ module _ {V : Type 0} (told : V → Option Disk) (may_leave : V → Disk → Typ
         (h.seats i there.0 k there.1 at_k)
 
 -- ---- one behind another
-module _ {V : Type 0} (told : V → Option Disk) (may_leave : V → Disk → Type 0) (faults : V → ℕ) (moment : V → ℕ) (left_since : V → ℕ → Disk → Type 0) (precheck : Bool) (ks : List Client) (os : List RegionState) (x : SystemState) (o : Vaulted V) where
-  pub none_asked : ((c : Disk) → left_since o.store (moment o.store) c → may_leave o.store c) → HaltsOn told may_leave faults moment left_since 0 precheck ks os x o os x o
-  none_asked now s p bs h = (h, [], refl, still_left told may_leave faults moment left_since s h.batches h.to os x o now h.stood.stands)
+module _ {V : Type 0} (means : Ghosts V) (precheck : Bool) (ks : List Client) (os : List RegionState) (x : SystemState) (o : Vaulted V) where
+  pub none_asked : ((c : Disk) → means.left_since o.store (means.moment o.store) c → means.may_leave o.store c) → HaltsOn means 0 precheck ks os x o os x o
+  none_asked now s p bs h = (h, [], refl, still_left means s h.batches h.to os x o now h.stood.stands)
 
-  pub halts_on : (i : ℕ) (k : Client) (gs hs : List RegionState) (y z : SystemState) (v u : Vaulted V) → slice_get ks i ≡ Some k → IsNoShorter told o v → ((c : Disk) → left_since v.store (moment v.store) c → may_leave v.store c)
-      → HaltGoes told may_leave faults k gs y v hs z u → HaltLeavesRight told may_leave faults moment left_since gs y v u → (k.state ≡ Gone → (hs ≡ gs) × (z ≡ y) × (u ≡ v))
-      → HaltsOn told may_leave faults moment left_since i precheck ks os x o gs y v → HaltsOn told may_leave faults moment left_since (i + 1) precheck ks os x o hs z u
+  pub halts_on : (i : ℕ) (k : Client) (gs hs : List RegionState) (y z : SystemState) (v u : Vaulted V) → slice_get ks i ≡ Some k → IsNoShorter means.told o v → ((c : Disk) → means.left_since v.store (means.moment v.store) c → means.may_leave v.store c)
+      → HaltGoes means k gs y v hs z u → HaltLeavesRight means gs y v u → (k.state ≡ Gone → (hs ≡ gs) × (z ≡ y) × (u ≡ v))
+      → HaltsOn means i precheck ks os x o gs y v → HaltsOn means (i + 1) precheck ks os x o hs z u
   halts_on i k gs hs y z v u at_k longer now halts leaves gone before s p bs h =
       let a = before s p bs h in
-      let b = one_asks told may_leave faults moment left_since precheck s p bs ks i k at_k gs y v a.0 hs z u now halts leaves gone in
-      (b.0, a.1 ++ b.1, course_join h.to a.0.to b.0.to a.1 b.1 a.2 b.2, between_both told may_leave faults moment left_since s h.to a.0.to b.0.to a.1 b.1 o v u a.2 b.2 longer a.3 b.3)
+      let b = one_asks means precheck s p bs ks i k at_k gs y v a.0 hs z u now halts leaves gone in
+      (b.0, a.1 ++ b.1, course_join h.to a.0.to b.0.to a.1 b.1 a.2 b.2, between_both means s h.to a.0.to b.0.to a.1 b.1 o v u a.2 b.2 longer a.3 b.3)
 
-  pub halts_go : (upto : ℕ) (hs : List RegionState) (z : SystemState) (u : Vaulted V) → length ks ≤ upto → HaltsOn told may_leave faults moment left_since upto precheck ks os x o hs z u → HaltsGo told may_leave faults precheck ks os x o hs z u
-  halts_go upto hs z u all on s p bs h = has_halted told may_leave faults precheck s p bs ks upto hs z u all (on s p bs h).0
+  pub halts_go : (upto : ℕ) (hs : List RegionState) (z : SystemState) (u : Vaulted V) → length ks ≤ upto → HaltsOn means upto precheck ks os x o hs z u → HaltsGo means precheck ks os x o hs z u
+  halts_go upto hs z u all on s p bs h = has_halted means precheck s p bs ks upto hs z u all (on s p bs h).0
 
-  pub halts_end : (upto : ℕ) (hs : List RegionState) (z : SystemState) (u : Vaulted V) → HaltsOn told may_leave faults moment left_since upto precheck ks os x o hs z u → HaltsEnd told may_leave faults moment left_since precheck ks os x o hs z u
+  pub halts_end : (upto : ℕ) (hs : List RegionState) (z : SystemState) (u : Vaulted V) → HaltsOn means upto precheck ks os x o hs z u → HaltsEnd means precheck ks os x o hs z u
   halts_end upto hs z u on s p bs h =
-      let a = on s p bs h in ends_right told may_leave faults moment left_since s a.0.batches h.to a.0.to a.1 hs z o u a.0.stood.stands a.2 a.3
+      let a = on s p bs h in ends_right means s a.0.batches h.to a.0.to a.1 hs z o u a.0.stood.stands a.2 a.3

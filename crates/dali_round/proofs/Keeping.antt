@@ -2,14 +2,14 @@
 use Rattle.std.proofs.Common.{◌≡◌, ℕ, ◌<◌, List, length, Option, Some, get_or, refl, sym, subst, ⊎_elim}
 use Rattle.std.specs.Prelude.{IfSome, slice_get, slice_set}
 use Rattle.std.proofs.lemmas.Option.{slice_get-get_or}
-use Rattle.dali_counts.proofs.Lists.{set_cases}
+use Rattle.dali_runs.proofs.CountsLemmas.Lists.{set_cases}
 use Rattle.dali_region.specs.State.{RegionState}
 use Rattle.dali_store.specs.Store.{Files as Disk}
-use Rattle.dali_vault.specs.Vaulted.{Vaulted}
-use Rattle.dali_whole.specs.Cores.{HoldsPlaces, IsNoShorter}
-use Rattle.dali_whole.proofs.Lengths.{same_length, then_length}
+use Rattle.dali_core.specs.Vault.Vaulted.{Vaulted}
+use Rattle.dali_core.specs.Cores.{HoldsPlaces, IsNoShorter}
+use Rattle.dali_core.proofs.Lengths.{same_length, then_length}
 use Rattle.dali_checkpoint.specs.Kept.{side_in}
-use Rattle.dali_clients.specs.declared.command.Block.{Block}
+use Rattle.dali_transcripts.specs.declared.clients.command.Block.{Block}
 use Rattle.dali_checkpoint.proofs.Lengths.{reaches_told}
 use Rattle.dali_turns.specs.declared.client.Client.{Client}
 use Rattle.dali_turns.specs.declared.client.State.{State}

@@ -3,7 +3,7 @@ use Rattle.std.proofs.Common.{◌≡◌, ℕ, zero, suc, ◌+◌, ◌<◌, Bool,
 use Rattle.std.specs.Prelude.{slice_get, slice_set}
 use Rattle.std.specs.List.{list_all}
 use Rattle.std.proofs.lemmas.Bool.{and_from}
-use Rattle.dali_counts.proofs.Lists.{some_same, and_left, and_right, set_cases}
+use Rattle.dali_runs.proofs.CountsLemmas.Lists.{some_same, and_left, and_right, set_cases}
 
 -- what is below the next number is below this one, or is it
 pub by_less : (a b : ℕ) → a < b + 1 → (a < b) ⊎ (a ≡ b)

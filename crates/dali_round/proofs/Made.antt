@@ -3,8 +3,8 @@ use Rattle.std.proofs.Common.{◌≡◌, ℕ, zero, suc, ◌+◌, ◌<◌, ◌�
 use Rattle.std.specs.Prelude.{◌==◌, slice_get}
 use Rattle.std.proofs.lemmas.List.{length-append}
 use Rattle.std.proofs.lemmas.Option.{slice_get_within}
-use Rattle.dali_counts.proofs.Lists.{some_same, get_take}
-use Rattle.dali_clients.specs.declared.command.Block.{Block}
+use Rattle.dali_runs.proofs.CountsLemmas.Lists.{some_same, get_take}
+use Rattle.dali_transcripts.specs.declared.clients.command.Block.{Block}
 use Rattle.dali_turns.specs.declared.client.Client.{Client}
 use Rattle.dali_turns.specs.Clients.{is_over}
 use Rattle.dali_round.specs.Played.{IsNew, AreNew, AreOver}

@@ -3,9 +3,9 @@ use Rattle.std.proofs.Common.{◌≡◌, ℕ, zero, suc, ◌+◌, ◌<◌, ◌�
 use Rattle.std.specs.Prelude.{slice_get}
 use Rattle.std.proofs.lemmas.Option.{slice_get_within}
 use Rattle.dali_lists.proofs.Lists.{get_within}
-use Rattle.dali_counts.proofs.Lists.{some_same}
-use Rattle.dali_clients.specs.declared.command.Block.{Block}
-use Rattle.dali_clients.specs.Told.{told_of}
+use Rattle.dali_runs.proofs.CountsLemmas.Lists.{some_same}
+use Rattle.dali_transcripts.specs.declared.clients.command.Block.{Block}
+use Rattle.dali_transcripts.specs.Clients.Told.{told_of}
 use Rattle.dali_transcripts.specs.Rounds.{AreBlocks}
 use Rattle.dali_round.specs.Idle.{IsOrder}
 use Rattle.dali_round.proofs.Lists.{by_less, get_map}

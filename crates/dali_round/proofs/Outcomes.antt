@@ -6,17 +6,18 @@ use Rattle.std.proofs.lemmas.List.{append-nil}
 use Rattle.std.proofs.lemmas.List.Elements.{filter_map-append}
 use Rattle.dali_lists.proofs.Lists.{set_same}
 use Rattle.dali_lists.proofs.Options.{some_of_test}
-use Rattle.dali_counts.proofs.Lists.{equal, some_same, and_left, and_right}
+use Rattle.dali_runs.proofs.CountsLemmas.Lists.{equal, some_same, and_left, and_right}
 use Rattle.dali_region.specs.declared.Hold.{Hold}
 use Rattle.dali_region.specs.State.{RegionState, IsLive}
 use Rattle.dali_att.specs.declared.state.State.{State as TxnState}
 use Rattle.dali_att.specs.declared.state.State.TheVariants.{Live, Dead, Cleaning, Committed}
 use Rattle.dali_store.specs.Store.{Files as Disk}
-use Rattle.dali_system.specs.State.{SystemState, CoreState, TxnRow, row_of, state_in, state_of}
-use Rattle.dali_system.specs.Steps.{in_checkpoint}
+use Rattle.dali_store.specs.declared.store.Store.{Ghosts}
+use Rattle.dali_runs.specs.State.{SystemState, CoreState, TxnRow, row_of, state_in, state_of}
+use Rattle.dali_runs.specs.Steps.{in_checkpoint}
 use Rattle.dali_crash.specs.Checkpoints.{Finishes, Point, IsPointCourse}
 use Rattle.dali_crash.specs.Traces.{Start, bases_of}
-use Rattle.dali_vault.specs.Vaulted.{Vaulted}
+use Rattle.dali_core.specs.Vault.Vaulted.{Vaulted}
 use Rattle.dali_during.proofs.Points.{point_whole_course_keeps}
 use Rattle.dali_clean.specs.Cleaned.{AreDead}
 use Rattle.dali_transcripts.specs.Words.{Said}
@@ -24,7 +25,7 @@ use Rattle.dali_transcripts.specs.World.{Deed, StartsCheckpoint, EndsCheckpoint,
 use Rattle.dali_transcripts.specs.Transcripts.{Told, deeds_of, number_in, numbers_of, receipts_of, AreHanded, is_among, EachTells}
 use Rattle.dali_transcripts.specs.Rounds.{Standing, Stands, IsDone, told_of, lines_in, IsAtRest, IsBetween}
 use Rattle.dali_transcripts.proofs.Rounds.{round_is_done, round_is_cut, deeds_are_done}
-use Rattle.dali_deeds.specs.Tells.{after, Goes}
+use Rattle.dali_transcripts.specs.Telling.Tells.{after, Goes}
 use Rattle.dali_turns.specs.declared.client.Client.{Client}
 use Rattle.dali_turns.specs.Stood.{Stood}
 use Rattle.dali_turns.specs.Fits.{lines_of}
@@ -43,7 +44,7 @@ use Rattle.dali_round.proofs.Marks.{ends_under_way}
 use Rattle.dali_round.proofs.Places.{done_of, told_done, lines_done, over_stands, over_pending, over_owns}
 use Rattle.dali_round.proofs.Seats.{is_on, numbers_on, other_client, played_by}
 use Rattle.dali_round.proofs.Starts.{get_back}
-use Rattle.dali_rounds.specs.Went.{is_open}
+use Rattle.dali_transactions.specs.Beside.Went.{is_open}
 
 -- ---- lists
 find_among : (ss : List Standing) (c : ℕ) → is_among (map told_of ss) c ≡ true → (i : ℕ) × (a : Standing) × (slice_get ss i ≡ Some a) × (a.client ≡ c)
@@ -83,8 +84,8 @@ no_live gs dead r g e live = by_hold g.hold (dead r g e) live
     by_hold None d l = absurd l
     by_hold (Some h) d l = let no_way : true ≡ false = sym d ∙ l in absurd (cc)
 
-module _ {V : Type 0} (told : V → Option Disk) (may_leave : V → Disk → Type 0) (faults : V → ℕ) where
-  module _ (precheck : Bool) (s : Start) (p : Point) (bs : List Told) (ks : List Client) (gs : List RegionState) (y : SystemState) (v : Vaulted V) (ok : Bool) (f : Played told may_leave faults ok precheck s p bs ks gs y v) where
+module _ {V : Type 0} (means : Ghosts V) where
+  module _ (precheck : Bool) (s : Start) (p : Point) (bs : List Told) (ks : List Client) (gs : List RegionState) (y : SystemState) (v : Vaulted V) (ok : Bool) (f : Played means ok precheck s p bs ks gs y v) where
     -- ---- whose checkpoint is under way
     record Making : Type 0 where
       place : ℕ
@@ -116,7 +117,7 @@ module _ {V : Type 0} (told : V → Option Disk) (may_leave : V → Disk → Typ
     }
 
     leads : (lines : List (List Said)) (receipts : List (List ℕ)) → y.checking ≡ false → EachTells ok f.world bs lines → AreHanded ok (receipts_of f.world bs) receipts → (ok ≡ true → IsBetween f.to.core)
-        → RoundLeads told may_leave faults precheck ok s p bs lines receipts gs y v
+        → RoundLeads means precheck ok s p bs lines receipts gs y v
     leads lines receipts clear each handed between = record {
       to = f.to;
       batches = f.batches;
@@ -147,7 +148,7 @@ module _ {V : Type 0} (told : V → Option Disk) (may_leave : V → Disk → Typ
     lines_are = same_map lines_in lines_of f.standings ks f.count (λ i a k at_a at_k. sym (f.seats i a k at_a at_k).is.lines)
 
   -- ---- each client is done
-  module _ (precheck : Bool) (s : Start) (p : Point) (bs : List Told) (ks : List Client) (gs : List RegionState) (y : SystemState) (v : Vaulted V) (f : Played told may_leave faults true precheck s p bs ks gs y v) (over : AreOver ks) where
+  module _ (precheck : Bool) (s : Start) (p : Point) (bs : List Told) (ks : List Client) (gs : List RegionState) (y : SystemState) (v : Vaulted V) (f : Played means true precheck s p bs ks gs y v) (over : AreOver ks) where
     seat_at : (i : ℕ) (a : Standing) → slice_get f.standings i ≡ Some a → (k : Client) × (slice_get ks i ≡ Some k)
     seat_at i a e = with_length ks f.standings i a (sym f.count) e
 
@@ -159,14 +160,14 @@ module _ {V : Type 0} (told : V → Option Disk) (may_leave : V → Disk → Typ
         by_flag true e =
             let m = making precheck s p bs ks gs y v true f e in
             let seat = f.seats m.place m.standing m.client m.there m.at_client in
-            absurd (none_under_way f.world m.standing seat.is.stands (over_pending told may_leave faults s f.batches f.to f.world gs y v m.standing m.client m.client.state seat.came (over m.place m.client m.at_client)) m.under)
+            absurd (none_under_way f.world m.standing seat.is.stands (over_pending means s f.batches f.to f.world gs y v m.standing m.client m.client.state seat.came (over m.place m.client m.at_client)) m.under)
 
     done_each : (i : ℕ) (c : Standing) → slice_get (map done_of f.standings) i ≡ Some c → Stands f.world c × IsDone c
     done_each i c e =
         let back = get_back done_of f.standings i c e in
         let k = seat_at i back.0 back.1 in
         let seat = f.seats i back.0 k.0 back.1 k.1 in
-        subst (λ (d : Standing). Stands f.world d × IsDone d) (sym back.2) (over_stands told may_leave faults s f.batches f.to f.world gs y v back.0 k.0 seat.is.stands k.0.state seat.came (over i k.0 k.1))
+        subst (λ (d : Standing). Stands f.world d × IsDone d) (sym back.2) (over_stands means s f.batches f.to f.world gs y v back.0 k.0 seat.is.stands k.0.state seat.came (over i k.0 k.1))
 
     each : EachTells true f.world bs (map lines_of ks)
     each =
@@ -202,15 +203,15 @@ module _ {V : Type 0} (told : V → Option Disk) (may_leave : V → Disk → Typ
       idle = subst (λ (m : SystemState). m.stop ≡ None → (t : ℕ) → IsSome (row_of m t) → is_dead_in (state_of m t) ≡ true) (sym f.stood.stands.at.system) dead_rows;
     }
 
-    pub done_leads : RoundLeads told may_leave faults precheck true s p bs (map lines_of ks) (map (λ (k : Client). k.transcript.receipts) ks) gs y v
+    pub done_leads : RoundLeads means precheck true s p bs (map lines_of ks) (map (λ (k : Client). k.transcript.receipts) ks) gs y v
     done_leads = leads precheck s p bs ks gs y v true f (map lines_of ks) (map (λ (k : Client). k.transcript.receipts) ks) clear each handed (λ e. is_between)
 
   -- ---- the round was cut
   module _ (precheck : Bool) (s : Start) (p : Point) (bs : List Told) (ks : List Client) (gs : List RegionState) (y : SystemState) (v : Vaulted V) where
-    cut_clear : Played told may_leave faults false precheck s p bs ks gs y v → y.checking ≡ false → RoundLeads told may_leave faults precheck false s p bs (map lines_of ks) (map (λ (k : Client). k.transcript.receipts) ks) gs y v
+    cut_clear : Played means false precheck s p bs ks gs y v → y.checking ≡ false → RoundLeads means precheck false s p bs (map lines_of ks) (map (λ (k : Client). k.transcript.receipts) ks) gs y v
     cut_clear f clear = leads precheck s p bs ks gs y v false f (map lines_of ks) (map (λ (k : Client). k.transcript.receipts) ks) clear each handed (λ e. absurd (cc))
       where
-        cut_each : (i : ℕ) (a : Standing) (e : slice_get f.standings i ≡ Some a) → IsSeated told may_leave faults false s f.batches f.to f.world gs y v a (with_length ks f.standings i a (sym f.count) e).0
+        cut_each : (i : ℕ) (a : Standing) (e : slice_get f.standings i ≡ Some a) → IsSeated means false s f.batches f.to f.world gs y v a (with_length ks f.standings i a (sym f.count) e).0
         cut_each i a e = let k = with_length ks f.standings i a (sym f.count) e in f.seats i a k.0 e k.1
 
         each : EachTells false f.world bs (map lines_of ks)
@@ -225,7 +226,7 @@ module _ {V : Type 0} (told : V → Option Disk) (may_leave : V → Disk → Typ
             (handed_cut f.world f.standings ks f.count (λ i a k at_a at_k. let seat = f.seats i a k at_a at_k in (seat.receipts.0, ap (λ c. numbers_of (deeds_of f.world c)) seat.is.client ∙ seat.receipts.1)))
 
   -- a checkpoint that was under way ends
-  module _ (precheck : Bool) (s : Start) (p : Point) (bs : List Told) (ks : List Client) (gs : List RegionState) (y : SystemState) (v : Vaulted V) (f : Played told may_leave faults false precheck s p bs ks gs y v) (set : y.checking ≡ true) where
+  module _ (precheck : Bool) (s : Start) (p : Point) (bs : List Told) (ks : List Client) (gs : List RegionState) (y : SystemState) (v : Vaulted V) (f : Played means false precheck s p bs ks gs y v) (set : y.checking ≡ true) where
     abbrev m : Making precheck s p bs ks gs y v false f
     m = making precheck s p bs ks gs y v false f set
 
@@ -244,15 +245,15 @@ module _ {V : Type 0} (told : V → Option Disk) (may_leave : V → Disk → Typ
     goes : Goes f.world a.client f.to ds x q
     goes =
         course_tells (bases_of s) s.log f.world a.client f.to q (Finishes ∷ []) ds f.stood.stands.at.vault.run f.stood.tells
-        (q, ds, [], finishes_there told may_leave faults s f.batches f.to gs y v f.stood.stands.at set, (refl, m.under), (tt, tt), (refl, refl), refl)
+        (q, ds, [], finishes_there means s f.batches f.to gs y v f.stood.stands.at set, (refl, m.under), (tt, tt), (refl, refl), refl)
 
     course : IsPointCourse f.to (Finishes ∷ []) q
-    course = (q, finishes_there told may_leave faults s f.batches f.to gs y v f.stood.stands.at set, refl)
+    course = (q, finishes_there means s f.batches f.to gs y v f.stood.stands.at set, refl)
 
-    late : Stood told may_leave faults s f.batches q x precheck gs (in_checkpoint y false) v
+    late : Stood means s f.batches q x precheck gs (in_checkpoint y false) v
     late = record {
       stands = record {
-        at = finished_at told may_leave faults s f.batches f.to gs y v f.stood.stands.at set;
+        at = finished_at means s f.batches f.to gs y v f.stood.stands.at set;
         whole = point_whole_course_keeps (bases_of s) s.log f.to q (Finishes ∷ []) f.stood.stands.at.vault.run.run f.stood.stands.whole course;
         dead = f.stood.stands.dead;
       };
@@ -266,10 +267,10 @@ module _ {V : Type 0} (told : V → Option Disk) (may_leave : V → Disk → Typ
       keeps = course_flag f.to q (Finishes ∷ []) course f.stood.keeps;
     }
 
-    seat : IsSeated told may_leave faults false s f.batches f.to f.world gs y v a m.client
+    seat : IsSeated means false s f.batches f.to f.world gs y v a m.client
     seat = f.seats m.place a m.client m.there m.at_client
 
-    own_seat : IsSeated told may_leave faults false s f.batches q x gs (in_checkpoint y false) v (behind a f.world ds) m.client
+    own_seat : IsSeated means false s f.batches q x gs (in_checkpoint y false) v (behind a f.world ds) m.client
     own_seat = record {
       is = record { client = seat.is.client; lines = seat.is.lines; stands = deeds_are_done f.world x a.client a.acts a.lines a.pending a.spot ds goes.grows goes.more seat.is.stands };
       came = under_way_on f.world x goes.grows a.client a.spot (a.pending ++ (length (log_of f.world), EndsCheckpoint) ∷ []) [] (ends_under_way f.world a (length (log_of f.world)) seat.is.stands m.under seat.came);
@@ -283,36 +284,36 @@ module _ {V : Type 0} (told : V → Option Disk) (may_leave : V → Disk → Typ
             ∙ (filter_map-append number_in (deeds_of f.world a.client) ((length (log_of f.world), EndsCheckpoint) ∷ [])
             ∙ (append-nil (numbers_of (deeds_of f.world a.client)) ∙ ap (λ c. numbers_of (deeds_of f.world c)) seat.is.client)))
 
-    other_seat : (n : ℕ) (c : Standing) (l : Client) → slice_get f.standings n ≡ Some c → slice_get ks n ≡ Some l → (n ≡ m.place → ⊥) → IsSeated told may_leave faults false s f.batches q x gs (in_checkpoint y false) v c l
+    other_seat : (n : ℕ) (c : Standing) (l : Client) → slice_get f.standings n ≡ Some c → slice_get ks n ≡ Some l → (n ≡ m.place → ⊥) → IsSeated means false s f.batches q x gs (in_checkpoint y false) v c l
     other_seat n c l at_c at_l apart = record {
-      is = is_on told may_leave faults precheck s p bs ks gs y v false false f m.place a m.client m.there m.at_client f.batches q (Finishes ∷ []) course ds x goes gs (in_checkpoint y false) v late c l other old.is;
+      is = is_on means precheck s p bs ks gs y v false false f m.place a m.client m.there m.at_client f.batches q (Finishes ∷ []) course ds x goes gs (in_checkpoint y false) v late c l other old.is;
       came = under_way_on f.world x goes.grows c.client c.spot c.pending [] old.came;
-      receipts = (old.receipts.0, numbers_on told may_leave faults precheck s p bs ks gs y v false false f m.place a m.client m.there m.at_client f.batches q (Finishes ∷ []) course ds x goes gs (in_checkpoint y false) v late c l other old.is ∙ old.receipts.1);
+      receipts = (old.receipts.0, numbers_on means precheck s p bs ks gs y v false false f m.place a m.client m.there m.at_client f.batches q (Finishes ∷ []) course ds x goes gs (in_checkpoint y false) v late c l other old.is ∙ old.receipts.1);
     }
       where
-        old : IsSeated told may_leave faults false s f.batches f.to f.world gs y v c l
+        old : IsSeated means false s f.batches f.to f.world gs y v c l
         old = f.seats n c l at_c at_l
 
         other : a.client ≡ c.client → ⊥
-        other = other_client told may_leave faults precheck s p bs ks gs y v false false f m.place a m.client m.there m.at_client f.batches q (Finishes ∷ []) course ds x goes gs (in_checkpoint y false) v late n c at_c apart
+        other = other_client means precheck s p bs ks gs y v false false f m.place a m.client m.there m.at_client f.batches q (Finishes ∷ []) course ds x goes gs (in_checkpoint y false) v late n c at_c apart
 
-    finished : Played told may_leave faults false precheck s p bs ks gs (in_checkpoint y false) v
+    finished : Played means false precheck s p bs ks gs (in_checkpoint y false) v
     finished =
-        subst (λ l. Played told may_leave faults false precheck s p bs l gs (in_checkpoint y false) v) (set_same ks m.place m.client m.at_client)
-        (played_by told may_leave faults precheck s p bs ks gs y v false false f m.place a m.client m.there m.at_client f.batches q (Finishes ∷ []) course ds x goes gs (in_checkpoint y false) v late (behind a f.world ds) m.client refl refl
+        subst (λ l. Played means false precheck s p bs l gs (in_checkpoint y false) v) (set_same ks m.place m.client m.at_client)
+        (played_by means precheck s p bs ks gs y v false false f m.place a m.client m.there m.at_client f.batches q (Finishes ∷ []) course ds x goes gs (in_checkpoint y false) v late (behind a f.world ds) m.client refl refl
         own_seat other_seat (λ e. absurd (cc)))
 
-  cut_leads : (precheck : Bool) (s : Start) (p : Point) (bs : List Told) (ks : List Client) (gs : List RegionState) (y : SystemState) (v : Vaulted V) → Played told may_leave faults false precheck s p bs ks gs y v
-      → RoundLeads told may_leave faults precheck false s p bs (map lines_of ks) (map (λ (k : Client). k.transcript.receipts) ks) gs (in_checkpoint y false) v
+  cut_leads : (precheck : Bool) (s : Start) (p : Point) (bs : List Told) (ks : List Client) (gs : List RegionState) (y : SystemState) (v : Vaulted V) → Played means false precheck s p bs ks gs y v
+      → RoundLeads means precheck false s p bs (map lines_of ks) (map (λ (k : Client). k.transcript.receipts) ks) gs (in_checkpoint y false) v
   cut_leads precheck s p bs ks gs y v f = by_flag y.checking refl
     where
-      by_flag : (b : Bool) → y.checking ≡ b → RoundLeads told may_leave faults precheck false s p bs (map lines_of ks) (map (λ (k : Client). k.transcript.receipts) ks) gs (in_checkpoint y false) v
+      by_flag : (b : Bool) → y.checking ≡ b → RoundLeads means precheck false s p bs (map lines_of ks) (map (λ (k : Client). k.transcript.receipts) ks) gs (in_checkpoint y false) v
       by_flag true e = cut_clear precheck s p bs ks gs (in_checkpoint y false) v (finished precheck s p bs ks gs y v f e) refl
       by_flag false e =
           let same : y ≡ in_checkpoint y false = ap (in_checkpoint y) e in
-          subst (λ (z : SystemState). RoundLeads told may_leave faults precheck false s p bs (map lines_of ks) (map (λ (k : Client). k.transcript.receipts) ks) gs z v) same (cut_clear precheck s p bs ks gs y v f e)
+          subst (λ (z : SystemState). RoundLeads means precheck false s p bs (map lines_of ks) (map (λ (k : Client). k.transcript.receipts) ks) gs z v) same (cut_clear precheck s p bs ks gs y v f e)
 
-  pub end_cut : (precheck : Bool) (s : Start) (p : Point) (bs : List Told) (ks : List Client) (gs : List RegionState) (y : SystemState) (v : Vaulted V) (z : SystemState) → z ≡ in_checkpoint y false → Played told may_leave faults false precheck s p bs ks gs y v
-      → RoundLeads told may_leave faults precheck false s p bs (map lines_of ks) (map (λ (k : Client). k.transcript.receipts) ks) gs z v
+  pub end_cut : (precheck : Bool) (s : Start) (p : Point) (bs : List Told) (ks : List Client) (gs : List RegionState) (y : SystemState) (v : Vaulted V) (z : SystemState) → z ≡ in_checkpoint y false → Played means false precheck s p bs ks gs y v
+      → RoundLeads means precheck false s p bs (map lines_of ks) (map (λ (k : Client). k.transcript.receipts) ks) gs z v
   end_cut precheck s p bs ks gs y v z e f =
-      subst (λ (x : SystemState). RoundLeads told may_leave faults precheck false s p bs (map lines_of ks) (map (λ (k : Client). k.transcript.receipts) ks) gs x v) (sym e) (cut_leads precheck s p bs ks gs y v f)
+      subst (λ (x : SystemState). RoundLeads means precheck false s p bs (map lines_of ks) (map (λ (k : Client). k.transcript.receipts) ks) gs x v) (sym e) (cut_leads precheck s p bs ks gs y v f)

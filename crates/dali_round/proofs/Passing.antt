@@ -2,8 +2,8 @@
 use Rattle.std.proofs.Common.{◌≡◌, ◌≢◌, ℕ, ◌+◌, ◌<◌, ◌≤◌, List, length, Some, get_or, ap, sym, subst, ◌∙◌, ◌⊎◌, inl, inr, ⊎_elim, arith}
 use Rattle.std.specs.Prelude.{◌==◌, slice_get, slice_set}
 use Rattle.std.proofs.lemmas.Option.{slice_get_within, slice_get-get_or}
-use Rattle.dali_counts.proofs.Lists.{set_cases, some_same}
-use Rattle.dali_system.specs.State.{SystemState}
+use Rattle.dali_runs.proofs.CountsLemmas.Lists.{set_cases, some_same}
+use Rattle.dali_runs.specs.State.{SystemState}
 use Rattle.dali_turns.specs.declared.client.Client.{Client}
 use Rattle.dali_turns.specs.declared.client.State.{State}
 use Rattle.dali_turns.specs.Clients.{Stays}

@@ -2,22 +2,23 @@
 use Rattle.std.proofs.Common.{◌≡◌, ℕ, Bool, true, List, [], ◌∷◌, length, map, Option, Some, refl, ap, sym, subst, ◌∙◌, arith}
 use Rattle.std.specs.Prelude.{◌==◌}
 use Rattle.std.proofs.lemmas.List.{append-nil}
-use Rattle.dali_counts.proofs.Lists.{equal}
+use Rattle.dali_runs.proofs.CountsLemmas.Lists.{equal}
 use Rattle.dali_record.specs.declared.records.Record.{Record}
 use Rattle.dali_region.specs.State.{RegionState}
 use Rattle.dali_store.specs.Store.{Files as Disk}
-use Rattle.dali_system.specs.State.{SystemState}
+use Rattle.dali_store.specs.declared.store.Store.{Ghosts}
+use Rattle.dali_runs.specs.State.{SystemState}
 use Rattle.dali_crash.specs.Checkpoints.{Point}
 use Rattle.dali_crash.specs.Traces.{Start}
-use Rattle.dali_vault.specs.Vaulted.{Vaulted}
+use Rattle.dali_core.specs.Vault.Vaulted.{Vaulted}
 use Rattle.dali_transcripts.specs.Words.{Act, Said}
 use Rattle.dali_transcripts.specs.World.{World}
 use Rattle.dali_transcripts.specs.Moves.{Receipt, Place, Outside as IsOutside, LeftOut as IsLeftOut, Gone as IsGone, Spot, Rests, at}
 use Rattle.dali_transcripts.specs.Transcripts.{IsSoFar, IsOver, deeds_of}
 use Rattle.dali_transcripts.specs.Rounds.{Standing, Stands, IsDone, told_of, lines_in}
 use Rattle.dali_transcripts.proofs.Paths.{one_more_step}
-use Rattle.dali_clients.specs.declared.command.Command.{Command}
-use Rattle.dali_clients.specs.Told.{act_of}
+use Rattle.dali_transcripts.specs.declared.clients.command.Command.{Command}
+use Rattle.dali_transcripts.specs.Clients.Told.{act_of}
 use Rattle.dali_turns.specs.declared.client.Client.{Client}
 use Rattle.dali_turns.specs.declared.client.State.{State}
 use Rattle.dali_turns.specs.declared.client.State.TheVariants.{Outside, LeftOut, Within, Calling, TakingBack, Committing, Waiting, Auditing, Copying, Certifying, Gone}
@@ -67,41 +68,41 @@ module _ (w : World) (a : Standing) (so : Stands w a) where
         (subst IsOver (sym place) tt, refl, pending),
       )
 
-module _ {V : Type 0} (told : V → Option Disk) (may_leave : V → Disk → Type 0) (faults : V → ℕ)
+module _ {V : Type 0} (means : Ghosts V)
     (s : Start) (B : List (List Record)) (p : Point) (w : World) (gs : List RegionState) (y : SystemState) (v : Vaulted V) (a : Standing) where
-  pub over_stands : (k : Client) → Stands w a → (state : State) → Fits told may_leave faults s B p w gs y v a (rest_of k) state → is_over state (length k.rest.now == 0) ≡ true → Stands w (done_of a) × IsDone (done_of a)
+  pub over_stands : (k : Client) → Stands w a → (state : State) → Fits means s B p w gs y v a (rest_of k) state → is_over state (length k.rest.now == 0) ≡ true → Stands w (done_of a) × IsDone (done_of a)
   over_stands k so Outside f e = at_end w a so (IsOutside f.said) tt (rest_of k) f.spot (no_acts k.rest.now e) f.none
   over_stands k so LeftOut f e = at_end w a so (IsLeftOut f.said) tt (rest_of k) f.spot (no_acts k.rest.now e) f.none
   over_stands k so Gone f e = at_death w a so f.txn f.place f.none
   over_stands k so state f e = absurd (cc)
 
-  pub over_pending : (k : Client) (state : State) → Fits told may_leave faults s B p w gs y v a (rest_of k) state → is_over state (length k.rest.now == 0) ≡ true → a.pending ≡ []
+  pub over_pending : (k : Client) (state : State) → Fits means s B p w gs y v a (rest_of k) state → is_over state (length k.rest.now == 0) ≡ true → a.pending ≡ []
   over_pending k Outside f e = f.none
   over_pending k LeftOut f e = f.none
   over_pending k Gone f e = f.none
   over_pending k state f e = absurd (cc)
 
-  pub at_spot : (rest : List Act) (state : State) → Fits told may_leave faults s B p w gs y v a rest state → Fits told may_leave faults s B p w gs y v a a.spot.rest state
-  at_spot rest Outside f = subst (λ (l : List Act). Fits told may_leave faults s B p w gs y v a l Outside) (sym (ap (λ (q : Spot). q.rest) f.spot)) f
-  at_spot rest LeftOut f = subst (λ (l : List Act). Fits told may_leave faults s B p w gs y v a l LeftOut) (sym (ap (λ (q : Spot). q.rest) f.spot)) f
-  at_spot rest (Within x) f = subst (λ (l : List Act). Fits told may_leave faults s B p w gs y v a l (Within x)) (sym (ap (λ (q : Spot). q.rest) f.spot)) f
-  at_spot rest (Calling x plan) f = subst (λ (l : List Act). Fits told may_leave faults s B p w gs y v a l (Calling x plan)) (sym (ap (λ (q : Spot). q.rest) f.spot)) f
-  at_spot rest (TakingBack x plan why) f = subst (λ (l : List Act). Fits told may_leave faults s B p w gs y v a l (TakingBack x plan why)) (sym (ap (λ (q : Spot). q.rest) f.spot)) f
-  at_spot rest (Committing x number removals next) f = subst (λ (l : List Act). Fits told may_leave faults s B p w gs y v a l (Committing x number removals next)) (sym (ap (λ (q : Spot). q.rest) f.spot)) f
-  at_spot rest (Waiting tries holder) f = subst (λ (l : List Act). Fits told may_leave faults s B p w gs y v a l (Waiting tries holder)) (sym (ap (λ (q : Spot). q.rest) f.spot)) f
-  at_spot rest (Auditing audit next) f = subst (λ (l : List Act). Fits told may_leave faults s B p w gs y v a l (Auditing audit next)) (sym (ap (λ (q : Spot). q.rest) f.spot)) f
-  at_spot rest (Copying c next) f = subst (λ (l : List Act). Fits told may_leave faults s B p w gs y v a l (Copying c next)) (sym (ap (λ (q : Spot). q.rest) f.making.spot)) f
-  at_spot rest (Certifying c audit next) f = subst (λ (l : List Act). Fits told may_leave faults s B p w gs y v a l (Certifying c audit next)) (sym (ap (λ (q : Spot). q.rest) f.making.spot)) f
+  pub at_spot : (rest : List Act) (state : State) → Fits means s B p w gs y v a rest state → Fits means s B p w gs y v a a.spot.rest state
+  at_spot rest Outside f = subst (λ (l : List Act). Fits means s B p w gs y v a l Outside) (sym (ap (λ (q : Spot). q.rest) f.spot)) f
+  at_spot rest LeftOut f = subst (λ (l : List Act). Fits means s B p w gs y v a l LeftOut) (sym (ap (λ (q : Spot). q.rest) f.spot)) f
+  at_spot rest (Within x) f = subst (λ (l : List Act). Fits means s B p w gs y v a l (Within x)) (sym (ap (λ (q : Spot). q.rest) f.spot)) f
+  at_spot rest (Calling x plan) f = subst (λ (l : List Act). Fits means s B p w gs y v a l (Calling x plan)) (sym (ap (λ (q : Spot). q.rest) f.spot)) f
+  at_spot rest (TakingBack x plan why) f = subst (λ (l : List Act). Fits means s B p w gs y v a l (TakingBack x plan why)) (sym (ap (λ (q : Spot). q.rest) f.spot)) f
+  at_spot rest (Committing x number removals next) f = subst (λ (l : List Act). Fits means s B p w gs y v a l (Committing x number removals next)) (sym (ap (λ (q : Spot). q.rest) f.spot)) f
+  at_spot rest (Waiting tries holder) f = subst (λ (l : List Act). Fits means s B p w gs y v a l (Waiting tries holder)) (sym (ap (λ (q : Spot). q.rest) f.spot)) f
+  at_spot rest (Auditing audit next) f = subst (λ (l : List Act). Fits means s B p w gs y v a l (Auditing audit next)) (sym (ap (λ (q : Spot). q.rest) f.spot)) f
+  at_spot rest (Copying c next) f = subst (λ (l : List Act). Fits means s B p w gs y v a l (Copying c next)) (sym (ap (λ (q : Spot). q.rest) f.making.spot)) f
+  at_spot rest (Certifying c audit next) f = subst (λ (l : List Act). Fits means s B p w gs y v a l (Certifying c audit next)) (sym (ap (λ (q : Spot). q.rest) f.making.spot)) f
   at_spot rest Gone f = f
 
-  pub owns_within : (rest : List Act) (state : State) (t : ℕ) → Fits told may_leave faults s B p w gs y v a rest state → Owns state t → in_txn a.spot.place ≡ Some t
+  pub owns_within : (rest : List Act) (state : State) (t : ℕ) → Fits means s B p w gs y v a rest state → Owns state t → in_txn a.spot.place ≡ Some t
   owns_within rest (Within x) t f owns = ap (λ (q : Spot). in_txn q.place) f.spot ∙ ap Some owns
   owns_within rest (Calling x plan) t f owns = ap (λ (q : Spot). in_txn q.place) f.spot ∙ ap Some owns
   owns_within rest (TakingBack x plan why) t f owns = ap (λ (q : Spot). in_txn q.place) f.spot ∙ ap Some owns
   owns_within rest (Committing x number removals next) t f owns = ap (λ (q : Spot). in_txn q.place) f.spot ∙ ap Some owns
   owns_within rest state t f owns = absurd owns
 
-  pub owns_in : (rest : List Act) (state : State) (t : ℕ) → Fits told may_leave faults s B p w gs y v a rest state → Owns state t → InTxn a.spot.place t
+  pub owns_in : (rest : List Act) (state : State) (t : ℕ) → Fits means s B p w gs y v a rest state → Owns state t → InTxn a.spot.place t
   owns_in rest (Within x) t f owns = subst (λ (q : Spot). InTxn q.place t) (sym f.spot) owns
   owns_in rest (Calling x plan) t f owns = subst (λ (q : Spot). InTxn q.place t) (sym f.spot) owns
   owns_in rest (TakingBack x plan why) t f owns = subst (λ (q : Spot). InTxn q.place t) (sym f.spot) owns
@@ -109,7 +110,7 @@ module _ {V : Type 0} (told : V → Option Disk) (may_leave : V → Disk → Typ
   owns_in rest state t f owns = absurd owns
 
   -- its locks were granted to it
-  pub owns_locks : (rest : List Act) (state : State) (t : ℕ) → Fits told may_leave faults s B p w gs y v a rest state → Owns state t → AreGot p w a.client t
+  pub owns_locks : (rest : List Act) (state : State) (t : ℕ) → Fits means s B p w gs y v a rest state → Owns state t → AreGot p w a.client t
   owns_locks rest (Within x) t f owns = subst (AreGot p w a.client) owns f.locks
   owns_locks rest (Calling x plan) t f owns = subst (AreGot p w a.client) owns f.locks
   owns_locks rest (TakingBack x plan why) t f owns = subst (AreGot p w a.client) owns f.locks

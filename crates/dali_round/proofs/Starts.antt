@@ -2,26 +2,27 @@
 use Rattle.std.proofs.Common.{◌≡◌, ℕ, zero, suc, ◌≤◌, Bool, true, false, List, [], ◌∷◌, length, map, Option, Some, None, is_some, refl, ap, sym, subst, ◌∙◌, arith}
 use Rattle.std.specs.Prelude.{slice_get}
 use Rattle.std.proofs.lemmas.List.{length-append}
-use Rattle.dali_counts.proofs.Lists.{some_same}
+use Rattle.dali_runs.proofs.CountsLemmas.Lists.{some_same}
 use Rattle.dali_record.specs.declared.records.Record.{Record}
 use Rattle.dali_region.specs.State.{RegionState}
 use Rattle.dali_att.specs.declared.state.State.{State as TxnState}
 use Rattle.dali_att.specs.declared.state.State.TheVariants.{Live, Committed}
 use Rattle.dali_store.specs.Store.{Files as Disk}
-use Rattle.dali_system.specs.declared.causes.Cause.{Cause}
-use Rattle.dali_system.specs.State.{SystemState, row_of, state_of}
+use Rattle.dali_store.specs.declared.store.Store.{Ghosts}
+use Rattle.dali_runs.specs.declared.causes.Cause.{Cause}
+use Rattle.dali_runs.specs.State.{SystemState, row_of, state_of}
 use Rattle.dali_crash.specs.Checkpoints.{Point}
 use Rattle.dali_crash.specs.Traces.{Start, bases_of}
-use Rattle.dali_vault.specs.Vaulted.{Vaulted}
+use Rattle.dali_core.specs.Vault.Vaulted.{Vaulted}
 use Rattle.dali_transcripts.specs.World.{World, is_dead_in, is_claimed_in}
 use Rattle.dali_transcripts.specs.Moves.{Outside as IsOutside, at, start}
 use Rattle.dali_transcripts.specs.Rounds.{Standing, IsPlaced, AreBlocks, told_of as told_in}
-use Rattle.dali_core.proofs.Guards.{some_row}
-use Rattle.dali_deeds.proofs.Courses.{round_tells}
-use Rattle.dali_clients.specs.declared.command.Block.{Block}
-use Rattle.dali_clients.specs.declared.command.Command.{Command}
-use Rattle.dali_clients.specs.Said.{Transcribed}
-use Rattle.dali_clients.specs.Told.{act_of, said_of, told_of}
+use Rattle.dali_system.proofs.Guards.{some_row}
+use Rattle.dali_transcripts.proofs.TellingLemmas.Courses.{round_tells}
+use Rattle.dali_transcripts.specs.declared.clients.command.Block.{Block}
+use Rattle.dali_transcripts.specs.declared.clients.command.Command.{Command}
+use Rattle.dali_transcripts.specs.Clients.Said.{Transcribed}
+use Rattle.dali_transcripts.specs.Clients.Told.{act_of, said_of, told_of}
 use Rattle.dali_checkpoint.proofs.Walks.{map_length}
 use Rattle.dali_turns.specs.declared.client.Client.{Client}
 use Rattle.dali_turns.specs.declared.client.State.{State}
@@ -29,7 +30,7 @@ use Rattle.dali_turns.specs.Stood.{Stood}
 use Rattle.dali_turns.specs.Fits.{rest_of, Fits}
 use Rattle.dali_round.specs.Leads.{BeginsAt}
 use Rattle.dali_round.specs.Played.{IsNew, AreNew, IsSeated, Played}
-use Rattle.dali_rounds.specs.Went.{is_open}
+use Rattle.dali_transactions.specs.Beside.Went.{is_open}
 
 abbrev pub standing_of : Block → Standing
 standing_of b = record { client = b.client; acts = map act_of b.commands.items; lines = []; pending = []; spot = start (map act_of b.commands.items) }
@@ -48,8 +49,8 @@ get_told [] i b e = absurd (cc)
 get_told (z ∷ bs) zero b e = ap (λ c. Some (told_of c)) (some_same e)
 get_told (z ∷ bs) (suc i) b e = get_told bs i b e
 
-module _ {V : Type 0} (told : V → Option Disk) (may_leave : V → Disk → Type 0) (faults : V → ℕ)
-    (precheck : Bool) (s : Start) (B : List (List Record)) (p : Point) (gs : List RegionState) (y : SystemState) (v : Vaulted V) (b : BeginsAt told may_leave faults s B p gs y v) where
+module _ {V : Type 0} (means : Ghosts V)
+    (precheck : Bool) (s : Start) (B : List (List Record)) (p : Point) (gs : List RegionState) (y : SystemState) (v : Vaulted V) (b : BeginsAt means s B p gs y v) where
   abbrev pub world : World
   world = record { old = p.core; before = p.log; precheck = precheck; happened = []; core = p.core }
 
@@ -78,7 +79,7 @@ module _ {V : Type 0} (told : V → Option Disk) (may_leave : V → Disk → Typ
   since : length s.log ≤ length p.log
   since = subst (λ (L : List Record). length s.log ≤ length L) (sym b.stands.at.vault.run.run.log) (omega (arith, length-append s.log p.core.system.since))
 
-  pub stood : Stood told may_leave faults s B p world precheck gs y v
+  pub stood : Stood means s B p world precheck gs y v
   stood = record {
     stands = b.stands;
     files = b.files;
@@ -91,14 +92,14 @@ module _ {V : Type 0} (told : V → Option Disk) (may_leave : V → Disk → Typ
     keeps = b.keeps;
   }
 
-  new_seat : (c : Block) (k : Client) → IsPlaced false (map act_of c.commands.items) → IsNew c k → IsSeated told may_leave faults true s B p world gs y v (standing_of c) k
+  new_seat : (c : Block) (k : Client) → IsPlaced false (map act_of c.commands.items) → IsNew c k → IsSeated means true s B p world gs y v (standing_of c) k
   new_seat c k placed new = record {
     is = record {
       client = sym (ap (λ (t : Transcribed). t.client) new.transcript);
       lines = sym (ap (λ (t : Transcribed). map said_of t.lines) new.transcript);
       stands = record { moves = []; path = refl; lines_are = refl; did_are = refl };
     };
-    came = subst (λ (st : State). Fits told may_leave faults s B p world gs y v (standing_of c) (rest_of k) st) (sym new.state) (record {
+    came = subst (λ (st : State). Fits means s B p world gs y v (standing_of c) (rest_of k) st) (sym new.state) (record {
       said = false;
       may = λ e. absurd (cc);
       spot = ap (λ (cs : List Command). at (IsOutside false) (map act_of cs)) (sym new.rest);
@@ -108,7 +109,7 @@ module _ {V : Type 0} (told : V → Option Disk) (may_leave : V → Disk → Typ
     receipts = ap (λ (t : Transcribed). t.receipts) new.transcript;
   }
 
-  pub start_played : (bs : List Block) (ks : List Client) → AreBlocks (map told_of bs) → AreNew bs ks → Played told may_leave faults true precheck s p (map told_of bs) ks gs y v
+  pub start_played : (bs : List Block) (ks : List Client) → AreBlocks (map told_of bs) → AreNew bs ks → Played means true precheck s p (map told_of bs) ks gs y v
   start_played bs ks are new = record {
     are = are;
     log = b.stands.at.vault.run.run.log;
@@ -126,6 +127,6 @@ module _ {V : Type 0} (told : V → Option Disk) (may_leave : V → Disk → Typ
     count = new.count ∙ sym (map_length standing_of bs);
     seats = λ i a k at_a at_k.
         let c = get_back standing_of bs i a at_a in
-        subst (λ z. IsSeated told may_leave faults true s B p world gs y v z k) (sym c.2) (new_seat c.0 k (are.placed i (told_of c.0) (get_told bs i c.0 c.1)) (new.each i c.0 k c.1 at_k));
+        subst (λ z. IsSeated means true s B p world gs y v z k) (sym c.2) (new_seat c.0 k (are.placed i (told_of c.0) (get_told bs i c.0 c.1)) (new.each i c.0 k c.1 at_k));
     owned = λ e up t is_so. absurd (not_open up t is_so);
   }

@@ -3,17 +3,18 @@ use Rattle.std.proofs.Common.{◌≡◌, ℕ, Bool, false, List, [], ◌∷◌, 
 use Rattle.dali_record.specs.declared.records.Record.{Record}
 use Rattle.dali_region.specs.State.{RegionState}
 use Rattle.dali_store.specs.Store.{Files as Disk}
-use Rattle.dali_system.specs.State.{SystemState}
+use Rattle.dali_store.specs.declared.store.Store.{Ghosts}
+use Rattle.dali_runs.specs.State.{SystemState}
 use Rattle.dali_crash.specs.Checkpoints.{Point}
 use Rattle.dali_crash.specs.Traces.{Start}
-use Rattle.dali_vault.specs.Vaulted.{Vaulted}
+use Rattle.dali_core.specs.Vault.Vaulted.{Vaulted}
 use Rattle.dali_transcripts.specs.World.{World}
 use Rattle.dali_transcripts.specs.Moves.{start}
 use Rattle.dali_transcripts.specs.Transcripts.{Told, EachTells, deeds_of, receipts_of, AreHanded}
 use Rattle.dali_transcripts.specs.Rounds.{AreBlocks}
-use Rattle.dali_clients.specs.declared.command.Block.{Block}
-use Rattle.dali_clients.specs.Said.{Transcribed}
-use Rattle.dali_clients.specs.Told.{told_of}
+use Rattle.dali_transcripts.specs.declared.clients.command.Block.{Block}
+use Rattle.dali_transcripts.specs.Clients.Said.{Transcribed}
+use Rattle.dali_transcripts.specs.Clients.Told.{told_of}
 use Rattle.dali_turns.specs.declared.client.Client.{Client}
 use Rattle.dali_turns.specs.Fits.{lines_of}
 use Rattle.dali_turns.proofs.Commands.{none_under_way}
@@ -66,10 +67,10 @@ none_tell w (b ∷ bs) e = (
     none : deeds_of w b.client ≡ []
     none = rw e refl
 
-module _ {V : Type 0} (told : V → Option Disk) (may_leave : V → Disk → Type 0) (faults : V → ℕ) (precheck : Bool) where
-  pub none_leads : (s : Start) (B : List (List Record)) (p : Point) (gs : List RegionState) (y : SystemState) (v : Vaulted V) (bs : List Told) → BeginsAt told may_leave faults s B p gs y v → RoundLeads told may_leave faults precheck false s p bs [] [] gs y v
+module _ {V : Type 0} (means : Ghosts V) (precheck : Bool) where
+  pub none_leads : (s : Start) (B : List (List Record)) (p : Point) (gs : List RegionState) (y : SystemState) (v : Vaulted V) (bs : List Told) → BeginsAt means s B p gs y v → RoundLeads means precheck false s p bs [] [] gs y v
   none_leads s B p gs y v bs b =
-      let now = stood told may_leave faults precheck s B p gs y v b in
+      let now = stood means precheck s B p gs y v b in
       record {
         to = p;
         batches = B;
@@ -79,14 +80,14 @@ module _ {V : Type 0} (told : V → Option Disk) (may_leave : V → Disk → Typ
         files = b.files;
         keeps = b.keeps;
         round = record {
-          world = world told may_leave faults precheck s B p gs y v b;
+          world = world means precheck s B p gs y v b;
           old_is = refl;
           before_is = b.stands.at.vault.run.run.log;
           precheck_is = refl;
           core_is = refl;
           grew = now.tells.grew;
           log = sym b.stands.at.vault.run.run.log ∙ now.tells.log;
-          transcripts = record { owners = refl; each = none_tell (world told may_leave faults precheck s B p gs y v b) bs refl };
+          transcripts = record { owners = refl; each = none_tell (world means precheck s B p gs y v b) bs refl };
           receipts_are = handed bs;
           right = now.tells.right;
           together = now.tells.together;
@@ -96,15 +97,15 @@ module _ {V : Type 0} (told : V → Option Disk) (may_leave : V → Disk → Typ
         at_once = now.tells.at_once;
       }
     where
-      handed : (bs : List Told) → AreHanded false (receipts_of (world told may_leave faults precheck s B p gs y v b) bs) []
+      handed : (bs : List Told) → AreHanded false (receipts_of (world means precheck s B p gs y v b) bs) []
       handed [] = tt
       handed (c ∷ bs) = tt
 
   module _ (gs hs : List RegionState) (y z : SystemState) (v u : Vaulted V) (whole : Bool) (bs : List Block) (ks js : List Client) (ts : List Transcribed) (are : AreBlocks (map told_of bs)) (new : AreNew bs ks)
-      (goes : EndGoes told may_leave faults precheck ks gs y v whole js hs z u) (size : length js ≡ length bs) (is : ts ≡ named bs js) where
-    pub round_leads : (s : Start) (B : List (List Record)) (p : Point) → BeginsAt told may_leave faults s B p gs y v → RoundLeads told may_leave faults precheck whole s p (map told_of bs) (map lines_in ts) (map (λ (t : Transcribed). t.receipts) ts) hs z u
+      (goes : EndGoes means precheck ks gs y v whole js hs z u) (size : length js ≡ length bs) (is : ts ≡ named bs js) where
+    pub round_leads : (s : Start) (B : List (List Record)) (p : Point) → BeginsAt means s B p gs y v → RoundLeads means precheck whole s p (map told_of bs) (map lines_in ts) (map (λ (t : Transcribed). t.receipts) ts) hs z u
     round_leads s B p b =
-        subst (λ (l : List Transcribed). RoundLeads told may_leave faults precheck whole s p (map told_of bs) (map lines_in l) (map (λ (t : Transcribed). t.receipts) l) hs z u) (sym is)
-        (subst (λ l. RoundLeads told may_leave faults precheck whole s p (map told_of bs) l (map (λ (t : Transcribed). t.receipts) (named bs js)) hs z u) (sym (lines_same bs js size))
-        (subst (λ l. RoundLeads told may_leave faults precheck whole s p (map told_of bs) (map lines_of js) l hs z u) (sym (receipts_same bs js size))
-        (goes s p (map told_of bs) (start_played told may_leave faults precheck s B p gs y v b bs ks are new))))
+        subst (λ (l : List Transcribed). RoundLeads means precheck whole s p (map told_of bs) (map lines_in l) (map (λ (t : Transcribed). t.receipts) l) hs z u) (sym is)
+        (subst (λ l. RoundLeads means precheck whole s p (map told_of bs) l (map (λ (t : Transcribed). t.receipts) (named bs js)) hs z u) (sym (lines_same bs js size))
+        (subst (λ l. RoundLeads means precheck whole s p (map told_of bs) (map lines_of js) l hs z u) (sym (receipts_same bs js size))
+        (goes s p (map told_of bs) (start_played means precheck s B p gs y v b bs ks are new))))

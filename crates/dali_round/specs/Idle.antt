@@ -6,10 +6,11 @@
 use Rattle.std.specs.Prelude.{◌≡◌, ◌==◌, ℕ, ◌<◌, Bool, true, List, Option, Some, length, slice_get}
 use Rattle.dali_region.specs.State.{RegionState}
 use Rattle.dali_store.specs.Store.{Files as Disk}
-use Rattle.dali_system.specs.State.{SystemState}
+use Rattle.dali_store.specs.declared.store.Store.{Ghosts}
+use Rattle.dali_runs.specs.State.{SystemState}
 use Rattle.dali_crash.specs.Checkpoints.{Point}
 use Rattle.dali_crash.specs.Traces.{Start}
-use Rattle.dali_vault.specs.Vaulted.{Vaulted}
+use Rattle.dali_core.specs.Vault.Vaulted.{Vaulted}
 use Rattle.dali_transcripts.specs.Transcripts.{Told}
 use Rattle.dali_turns.specs.declared.client.Client.{Client}
 use Rattle.dali_turns.specs.Waits.{MakesNone}
@@ -26,5 +27,5 @@ pub record MayPlay {V : Type 0} (told : V → Option Disk) (ks : List Client) (t
 abbrev pub AreIdle : SystemState → List Client → ℕ → Type 0
 AreIdle y ks n = (i : ℕ) (k : Client) → i < n → slice_get ks i ≡ Some k → MakesNone y k.state (length k.rest.now == 0)
 
-abbrev pub NoneHasCome : {V : Type 0} → (V → Option Disk) → (V → Disk → Type 0) → (V → ℕ) → Bool → List Client → List RegionState → SystemState → Vaulted V → Type 0
-NoneHasCome told may_leave faults precheck ks gs y v = (s : Start) (p : Point) (bs : List Told) → Played told may_leave faults true precheck s p bs ks gs y v → ⊥
+abbrev pub NoneHasCome : {V : Type 0} → Ghosts V → Bool → List Client → List RegionState → SystemState → Vaulted V → Type 0
+NoneHasCome means precheck ks gs y v = (s : Start) (p : Point) (bs : List Told) → Played means true precheck s p bs ks gs y v → ⊥

@@ -6,19 +6,20 @@ use Rattle.std.specs.Prelude.{◌≡◌, ℕ, Bool, true, false, List, Option, I
 use Rattle.dali_record.specs.declared.records.Record.{Record}
 use Rattle.dali_region.specs.State.{RegionState}
 use Rattle.dali_store.specs.Store.{Files as Disk}
-use Rattle.dali_system.specs.State.{SystemState}
+use Rattle.dali_store.specs.declared.store.Store.{Ghosts}
+use Rattle.dali_runs.specs.State.{SystemState}
 use Rattle.dali_crash.specs.Checkpoints.{StoreStep, Point, IsPointCourse}
 use Rattle.dali_crash.specs.StoreRuns.{FlagTells}
 use Rattle.dali_crash.specs.Traces.{Start}
-use Rattle.dali_vault.specs.Vaulted.{Vaulted}
-use Rattle.dali_whole.specs.Cores.{HoldsPlaces}
-use Rattle.dali_ends.specs.Stands.{StandsAt}
+use Rattle.dali_core.specs.Vault.Vaulted.{Vaulted}
+use Rattle.dali_core.specs.Cores.{HoldsPlaces}
+use Rattle.dali_transactions.specs.Stands.{StandsAt}
 use Rattle.dali_transcripts.specs.Words.{Said}
 use Rattle.dali_transcripts.specs.Transcripts.{Told}
 use Rattle.dali_transcripts.specs.Rounds.{AreAtOnce, IsBetween, IsRound}
-use Rattle.dali_clients.specs.declared.command.Block.{Block}
-use Rattle.dali_clients.specs.Said.{Transcribed}
-use Rattle.dali_clients.specs.Told.{said_of, told_of}
+use Rattle.dali_transcripts.specs.declared.clients.command.Block.{Block}
+use Rattle.dali_transcripts.specs.Clients.Said.{Transcribed}
+use Rattle.dali_transcripts.specs.Clients.Told.{said_of, told_of}
 use Rattle.dali_round.specs.declared.rounds.RoundEnd.{RoundEnd}
 use Rattle.dali_round.specs.declared.rounds.RoundEnd.TheVariants.{Done, OutOfMemory}
 
@@ -29,10 +30,10 @@ is_done OutOfMemory = false
 abbrev pub lines_in : Transcribed → List Said
 lines_in t = map said_of t.lines
 
-module _ {V : Type 0} (told : V → Option Disk) (may_leave : V → Disk → Type 0) (faults : V → ℕ) where
+module _ {V : Type 0} (means : Ghosts V) where
   pub record BeginsAt (s : Start) (B : List (List Record)) (p : Point) (gs : List RegionState) (y : SystemState) (v : Vaulted V) : Type 0 where
-    pub stands : StandsAt told may_leave faults s B p gs y v
-    pub files : IfSome (told v.store) (HoldsPlaces gs)
+    pub stands : StandsAt means s B p gs y v
+    pub files : IfSome (means.told v.store) (HoldsPlaces gs)
     pub keeps : FlagTells p
     pub between : IsBetween p.core
 
@@ -42,8 +43,8 @@ module _ {V : Type 0} (told : V → Option Disk) (may_leave : V → Disk → Typ
     pub batches : List (List Record)
     pub steps : List StoreStep
     pub course : IsPointCourse p steps to
-    pub stands : StandsAt told may_leave faults s batches to hs z u
-    pub files : IfSome (told u.store) (HoldsPlaces hs)
+    pub stands : StandsAt means s batches to hs z u
+    pub files : IfSome (means.told u.store) (HoldsPlaces hs)
     pub keeps : FlagTells to
     pub round : IsRound precheck whole s.log p.core to.core blocks lines receipts
     -- one thread makes all steps: nothing comes between a look and its operation

@@ -15,14 +15,15 @@ use Rattle.dali_record.specs.declared.records.Record.{Record}
 use Rattle.dali_record.specs.Files.{Files}
 use Rattle.dali_region.specs.State.{RegionState}
 use Rattle.dali_store.specs.Store.{Files as Disk}
-use Rattle.dali_system.specs.State.{SystemState, log_after}
+use Rattle.dali_store.specs.declared.store.Store.{Ghosts}
+use Rattle.dali_runs.specs.State.{SystemState, log_after}
 use Rattle.dali_crash.specs.Checkpoints.{StoreStep, Point, IsPointCourse}
 use Rattle.dali_crash.specs.Traces.{Start}
-use Rattle.dali_traces.specs.Disks.{Spells}
-use Rattle.dali_traces.specs.Bridges.{LeavesRightAt}
-use Rattle.dali_vault.specs.Vaulted.{Vaulted}
-use Rattle.dali_whole.specs.Cores.{IsNoShorter}
-use Rattle.dali_whole.specs.Moments.{Within}
+use Rattle.dali_crash.specs.Disks.Disks.{Spells}
+use Rattle.dali_crash.specs.Disks.Bridges.{LeavesRightAt}
+use Rattle.dali_core.specs.Vault.Vaulted.{Vaulted}
+use Rattle.dali_core.specs.Cores.{IsNoShorter}
+use Rattle.dali_core.specs.Moments.{Within}
 use Rattle.dali_transcripts.specs.Transcripts.{Told}
 use Rattle.dali_turns.specs.declared.client.Client.{Client}
 use Rattle.dali_round.specs.Leads.{BeginsAt}
@@ -53,34 +54,34 @@ pub record EndsRight {V : Type 0} (told : V → Option Disk) (moment : V → ℕ
   pub log : to.log ≡ log_after s.log z
   pub within : Within told moment left_since v u (LeavesBetween s p to)
 
-module _ {V : Type 0} (told : V → Option Disk) (may_leave : V → Disk → Type 0) (faults : V → ℕ) (moment : V → ℕ) (left_since : V → ℕ → Disk → Type 0) where
+module _ {V : Type 0} (means : Ghosts V) where
   abbrev pub PlayEnds : Bool → Bool → List Client → List RegionState → SystemState → Vaulted V → List Client → List RegionState → SystemState → Vaulted V → Type 0
   PlayEnds true precheck ks gs y v js hs z u =
-      (s : Start) (p : Point) (bs : List Told) (f : Played told may_leave faults true precheck s p bs ks gs y v)
-      → (j : Played told may_leave faults true precheck s p bs js hs z u) × (steps : List StoreStep) × IsPointCourse f.to steps j.to × Within told moment left_since v u (LeavesBetween s f.to j.to)
+      (s : Start) (p : Point) (bs : List Told) (f : Played means true precheck s p bs ks gs y v)
+      → (j : Played means true precheck s p bs js hs z u) × (steps : List StoreStep) × IsPointCourse f.to steps j.to × Within means.told means.moment means.left_since v u (LeavesBetween s f.to j.to)
   PlayEnds false precheck ks gs y v js hs z u =
-      (s : Start) (p : Point) (bs : List Told) (f : Played told may_leave faults true precheck s p bs ks gs y v)
-      → (j : Halting told may_leave faults 0 precheck s p bs js hs z u) × (steps : List StoreStep) × IsPointCourse f.to steps j.to × Within told moment left_since v u (LeavesBetween s f.to j.to)
+      (s : Start) (p : Point) (bs : List Told) (f : Played means true precheck s p bs ks gs y v)
+      → (j : Halting means 0 precheck s p bs js hs z u) × (steps : List StoreStep) × IsPointCourse f.to steps j.to × Within means.told means.moment means.left_since v u (LeavesBetween s f.to j.to)
 
   pub record TurnsGo (ok precheck : Bool) (ks : List Client) (gs : List RegionState) (y : SystemState) (v : Vaulted V) (js : List Client) (hs : List RegionState) (z : SystemState) (u : Vaulted V) : Type 0 where
-    pub goes : PlayGoes told may_leave faults precheck ks gs y v ok js hs z u
-    pub places : HavePlaces told js hs u
-    pub longer : IsNoShorter told v u
+    pub goes : PlayGoes means precheck ks gs y v ok js hs z u
+    pub places : HavePlaces means.told js hs u
+    pub longer : IsNoShorter means.told v u
     pub any_moment : PlayEnds ok precheck ks gs y v js hs z u
 
   abbrev pub HaltsOn : ℕ → Bool → List Client → List RegionState → SystemState → Vaulted V → List RegionState → SystemState → Vaulted V → Type 0
   HaltsOn upto precheck ks gs y v hs z u =
-      (s : Start) (p : Point) (bs : List Told) (h : Halting told may_leave faults 0 precheck s p bs ks gs y v)
-      → (j : Halting told may_leave faults upto precheck s p bs ks hs z u) × (steps : List StoreStep) × IsPointCourse h.to steps j.to × Within told moment left_since v u (LeavesBetween s h.to j.to)
+      (s : Start) (p : Point) (bs : List Told) (h : Halting means 0 precheck s p bs ks gs y v)
+      → (j : Halting means upto precheck s p bs ks hs z u) × (steps : List StoreStep) × IsPointCourse h.to steps j.to × Within means.told means.moment means.left_since v u (LeavesBetween s h.to j.to)
 
   abbrev pub HaltsEnd : Bool → List Client → List RegionState → SystemState → Vaulted V → List RegionState → SystemState → Vaulted V → Type 0
   HaltsEnd precheck ks gs y v hs z u =
-      (s : Start) (p : Point) (bs : List Told) (h : Halting told may_leave faults 0 precheck s p bs ks gs y v) → EndsRight told moment left_since s h.to v hs z u
+      (s : Start) (p : Point) (bs : List Told) (h : Halting means 0 precheck s p bs ks gs y v) → EndsRight means.told means.moment means.left_since s h.to v hs z u
 
   abbrev pub PlayLeaves : Bool → List Client → List RegionState → SystemState → Vaulted V → List RegionState → SystemState → Vaulted V → Type 0
   PlayLeaves precheck ks gs y v hs z u =
-      (s : Start) (p : Point) (bs : List Told) (f : Played told may_leave faults true precheck s p bs ks gs y v) → EndsRight told moment left_since s f.to v hs z u
+      (s : Start) (p : Point) (bs : List Told) (f : Played means true precheck s p bs ks gs y v) → EndsRight means.told means.moment means.left_since s f.to v hs z u
 
   abbrev pub RoundLeavesRight : List RegionState → SystemState → Vaulted V → List RegionState → SystemState → Vaulted V → Type 0
   RoundLeavesRight gs y v hs z u =
-      (s : Start) (B : List (List Record)) (p : Point) → BeginsAt told may_leave faults s B p gs y v → EndsRight told moment left_since s p v hs z u
+      (s : Start) (B : List (List Record)) (p : Point) → BeginsAt means s B p gs y v → EndsRight means.told means.moment means.left_since s p v hs z u

@@ -18,17 +18,18 @@ use Rattle.std.specs.List.{list_all}
 use Rattle.dali_record.specs.declared.records.Record.{Record}
 use Rattle.dali_region.specs.State.{RegionState}
 use Rattle.dali_store.specs.Store.{Files as Disk}
-use Rattle.dali_system.specs.State.{SystemState, state_of, log_after}
+use Rattle.dali_store.specs.declared.store.Store.{Ghosts}
+use Rattle.dali_runs.specs.State.{SystemState, state_of, log_after}
 use Rattle.dali_crash.specs.Checkpoints.{StoreStep, Point, IsPointCourse}
 use Rattle.dali_crash.specs.Traces.{Start}
-use Rattle.dali_vault.specs.Vaulted.{Vaulted}
-use Rattle.dali_whole.specs.Cores.{HoldsPlaces}
-use Rattle.dali_rounds.specs.Went.{is_open}
+use Rattle.dali_core.specs.Vault.Vaulted.{Vaulted}
+use Rattle.dali_core.specs.Cores.{HoldsPlaces}
+use Rattle.dali_transactions.specs.Beside.Went.{is_open}
 use Rattle.dali_transcripts.specs.World.{Happening, World}
 use Rattle.dali_transcripts.specs.Transcripts.{Told, is_among}
 use Rattle.dali_transcripts.specs.Rounds.{Standing, AreBlocks, told_of}
-use Rattle.dali_clients.specs.declared.command.Block.{Block}
-use Rattle.dali_clients.specs.Said.{silent}
+use Rattle.dali_transcripts.specs.declared.clients.command.Block.{Block}
+use Rattle.dali_transcripts.specs.Clients.Said.{silent}
 use Rattle.dali_turns.specs.declared.client.Client.{Client}
 use Rattle.dali_turns.specs.declared.client.State.TheVariants.{Outside, Gone}
 use Rattle.dali_turns.specs.Clients.{is_over}
@@ -58,10 +59,10 @@ pub record HavePlaces {V : Type 0} (told : V → Option Disk) (ks : List Client)
 abbrev pub EachIsOwned : List Client → SystemState → Type 0
 EachIsOwned ks y = y.stop ≡ None → (t : ℕ) → is_open (state_of y t) ≡ true → (i : ℕ) × (k : Client) × (slice_get ks i ≡ Some k) × Owns k.state t
 
-module _ {V : Type 0} (told : V → Option Disk) (may_leave : V → Disk → Type 0) (faults : V → ℕ) where
+module _ {V : Type 0} (means : Ghosts V) where
   pub record IsSeated (ok : Bool) (s : Start) (B : List (List Record)) (p : Point) (w : World) (gs : List RegionState) (y : SystemState) (v : Vaulted V) (a : Standing) (k : Client) : Type 0 where
     pub is : Speaks w a k
-    pub came : Came told may_leave faults ok s B p w gs y v a k
+    pub came : Came means ok s B p w gs y v a k
     pub receipts : AreReceipts ok w k
 
   pub record PlayedSo (IsAt : ℕ → Start → List (List Record) → Point → World → List RegionState → SystemState → Vaulted V → Standing → Client → Type 0) (AreOwned : Type 0)
@@ -75,7 +76,7 @@ module _ {V : Type 0} (told : V → Option Disk) (may_leave : V → Disk → Typ
     pub world : World
     pub old_is : world.old ≡ p.core
     pub before_is : world.before ≡ p.log
-    pub stood : Stood told may_leave faults s batches to world precheck gs y v
+    pub stood : Stood means s batches to world precheck gs y v
     -- nothing is done but by these clients
     pub owners : list_all (λ (x : Happening). is_among bs x.1) world.happened ≡ true
     pub standings : List Standing
@@ -99,8 +100,8 @@ module _ {V : Type 0} (told : V → Option Disk) (may_leave : V → Disk → Typ
   Plays false precheck s p bs ks gs y v = Halting 0 precheck s p bs ks gs y v
 
   abbrev pub MoveGoes : Bool → Client → List RegionState → SystemState → Vaulted V → Bool → Client → List RegionState → SystemState → Vaulted V → Type 0
-  MoveGoes precheck k gs y v true j hs z u = TurnGoes told may_leave faults precheck k gs y v true j hs z u ⊎ ((j ≡ k) × (hs ≡ gs) × (z ≡ y) × (u ≡ v))
-  MoveGoes precheck k gs y v false j hs z u = (i : Client) × TurnGoes told may_leave faults precheck k gs y v false i hs z u × (j ≡ record i { state = Gone })
+  MoveGoes precheck k gs y v true j hs z u = TurnGoes means precheck k gs y v true j hs z u ⊎ ((j ≡ k) × (hs ≡ gs) × (z ≡ y) × (u ≡ v))
+  MoveGoes precheck k gs y v false j hs z u = (i : Client) × TurnGoes means precheck k gs y v false i hs z u × (j ≡ record i { state = Gone })
 
   abbrev pub PlayGoes : Bool → List Client → List RegionState → SystemState → Vaulted V → Bool → List Client → List RegionState → SystemState → Vaulted V → Type 0
   PlayGoes precheck ks gs y v ok js hs z u = (s : Start) (p : Point) (bs : List Told) → Played true precheck s p bs ks gs y v → Plays ok precheck s p bs js hs z u

@@ -6,6 +6,6 @@
 
 mod rounds;
 
-pub use dali_clients::{Block, Command, Line, Transcript, Why};
-pub use dali_stepwise::{Gate, OpenGate};
+pub use dali_calls::stepwise::{Gate, OpenGate};
+pub use dali_transcripts::clients::{Block, Command, Line, Transcript, Why};
 pub use rounds::{RoundEnd, round};

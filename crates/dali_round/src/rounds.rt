@@ -1,8 +1,8 @@
 //! A whole round.
 ghost use Rattle.std.specs.Prelude.{◌≡◌, Bool, ◌<◌, ◌⊎◌, [], false, true, Ok, map, length, vec_capacity, vec_len, is_ok, IfOk, IfSome, OnOk};
 ghost use Rattle.dali_transcripts.specs.Rounds.{AreBlocks};
-ghost use Rattle.dali_clients.specs.Told.{told_of};
-ghost use Rattle.dali_whole.specs.Cores.{HoldsPlaces, IsNoShorter};
+ghost use Rattle.dali_transcripts.specs.Clients.Told.{told_of};
+ghost use Rattle.dali_core.specs.Cores.{HoldsPlaces, IsNoShorter};
 ghost use Rattle.dali_round.specs.Leads.{is_done, RoundGoes};
 ghost use Rattle.dali_turns.specs.Moments.{TurnLeavesRight};
 ghost use Rattle.dali_turns.specs.Places.{HasPlaces, PlacesGo};
@@ -13,11 +13,11 @@ ghost use Rattle.dali_round.specs.Idle.{AreIdle, IsOrder, MayPlay, NoneHasCome};
 ghost use Rattle.dali_round.specs.Moments.{TurnsGo, HaltsEnd, PlayLeaves, RoundLeavesRight};
 
 use dali_bytes::OutOfMemory;
-use dali_clients::{Block, Transcript};
-use dali_stepwise::Gate;
+use dali_calls::stepwise::Gate;
+use dali_core::Core;
 use dali_store::Store;
+use dali_transcripts::clients::{Block, Transcript};
 use dali_turns::{Client, Paces, Setting, halt, turn};
-use dali_whole::Core;
 use std::alloc::Global;
 
 /// How a round ended.
@@ -73,10 +73,10 @@ fn make_turn<V: Store, G: Gate>(
     setting: &Setting<'_, G>,
 ) -> Result<bool, OutOfMemory>
     requires { HasPlaces V.told client.old.state core.old.regions.items core.old.vault }
-    ensures goes { MoveGoes V.told V.may_leave V.faults setting.now.precheck client.old core.old.regions.items core.old.system.state core.old.vault (is_ok result) client.new core.new.regions.items core.new.system.state core.new.vault }
+    ensures goes { MoveGoes V.Store setting.now.precheck client.old core.old.regions.items core.old.system.state core.old.vault (is_ok result) client.new core.new.regions.items core.new.system.state core.new.vault }
     ensures places { PlacesGo V.told client.old.state core.old.regions.items core.old.vault client.new.state core.new.regions.items core.new.vault }
     ensures idle { result ≡ Ok false → StaysPut core.old.system.state client.old.state client.old client.new × (core.new ≡ core.old) }
-    ensures any_moment { TurnLeavesRight V.told V.may_leave V.faults V.moment V.left_since setting.now.precheck client.old core.old.regions.items core.old.system.state core.old.vault core.new.system.state core.new.vault }
+    ensures any_moment { TurnLeavesRight V.Store setting.now.precheck client.old core.old.regions.items core.old.system.state core.old.vault core.new.system.state core.new.vault }
 {
     if !due {
         return Ok(true);
@@ -99,7 +99,7 @@ fn make_turns<V: Store, G: Gate>(
     setting: &Setting<'_, G>,
 ) -> Result<bool, OutOfMemory>
     requires { MayPlay V.told clients.old order.now core.old.regions.items core.old.vault }
-    ensures turns { TurnsGo V.told V.may_leave V.faults V.moment V.left_since (is_ok result) setting.now.precheck clients.old core.old.regions.items core.old.system.state core.old.vault clients.new core.new.regions.items core.new.system.state core.new.vault }
+    ensures turns { TurnsGo V.Store (is_ok result) setting.now.precheck clients.old core.old.regions.items core.old.system.state core.old.vault clients.new core.new.regions.items core.new.system.state core.new.vault }
     ensures idle { result ≡ Ok false → AreIdle core.new.system.state clients.new (length clients.new) }
 {
     let mut went_on = false;
@@ -134,9 +134,9 @@ fn run<V: Store, G: Gate>(
     setting: &Setting<'_, G>,
 ) -> Result<bool, OutOfMemory>
     requires { MayPlay V.told clients.old order.now core.old.regions.items core.old.vault }
-    ensures turns { TurnsGo V.told V.may_leave V.faults V.moment V.left_since (is_ok result) setting.now.precheck clients.old core.old.regions.items core.old.system.state core.old.vault clients.new core.new.regions.items core.new.system.state core.new.vault }
+    ensures turns { TurnsGo V.Store (is_ok result) setting.now.precheck clients.old core.old.regions.items core.old.system.state core.old.vault clients.new core.new.regions.items core.new.system.state core.new.vault }
     ensures over { result ≡ Ok true → AreOver clients.new }
-    ensures stuck { result ≡ Ok false → NoneHasCome V.told V.may_leave V.faults setting.now.precheck clients.old core.old.regions.items core.old.system.state core.old.vault }
+    ensures stuck { result ≡ Ok false → NoneHasCome V.Store setting.now.precheck clients.old core.old.regions.items core.old.system.state core.old.vault }
 {
     let mut paces = Paces::new(clients.len());
     for _ in 0..u64::MAX {
@@ -150,10 +150,10 @@ fn run<V: Store, G: Gate>(
 // No client makes a step more: each commit that is logged is flushed, or has failed.
 fn halt_all<V: Store>(clients: &[Client<'_>], core: &mut Core<V>, alloc: Global)
     requires { HavePlaces V.told clients.now core.old.regions.items core.old.vault }
-    ensures goes { (precheck : Bool) → HaltsGo V.told V.may_leave V.faults precheck clients.now core.old.regions.items core.old.system.state core.old.vault core.new.regions.items core.new.system.state core.new.vault }
+    ensures goes { (precheck : Bool) → HaltsGo V.Store precheck clients.now core.old.regions.items core.old.system.state core.old.vault core.new.regions.items core.new.system.state core.new.vault }
     ensures places { HavePlaces V.told clients.now core.new.regions.items core.new.vault }
     ensures longer { IsNoShorter V.told core.old.vault core.new.vault }
-    ensures any_moment { (precheck : Bool) → HaltsEnd V.told V.may_leave V.faults V.moment V.left_since precheck clients.now core.old.regions.items core.old.system.state core.old.vault core.new.regions.items core.new.system.state core.new.vault }
+    ensures any_moment { (precheck : Bool) → HaltsEnd V.Store precheck clients.now core.old.regions.items core.old.system.state core.old.vault core.new.regions.items core.new.system.state core.new.vault }
 {
     for client in clients {
         halt(client, core, alloc);
@@ -168,10 +168,10 @@ fn play<V: Store, G: Gate>(
     setting: &Setting<'_, G>,
 ) -> RoundEnd
     requires { MayPlay V.told clients.old order.now core.old.regions.items core.old.vault }
-    ensures goes { EndGoes V.told V.may_leave V.faults setting.now.precheck clients.old core.old.regions.items core.old.system.state core.old.vault (is_done result) clients.new core.new.regions.items core.new.system.state core.new.vault }
+    ensures goes { EndGoes V.Store setting.now.precheck clients.old core.old.regions.items core.old.system.state core.old.vault (is_done result) clients.new core.new.regions.items core.new.system.state core.new.vault }
     ensures places { IfSome (V.told core.new.vault.store) (HoldsPlaces core.new.regions.items) }
     ensures longer { IsNoShorter V.told core.old.vault core.new.vault }
-    ensures any_moment { PlayLeaves V.told V.may_leave V.faults V.moment V.left_since setting.now.precheck clients.old core.old.regions.items core.old.system.state core.old.vault core.new.regions.items core.new.system.state core.new.vault }
+    ensures any_moment { PlayLeaves V.Store setting.now.precheck clients.old core.old.regions.items core.old.system.state core.old.vault core.new.regions.items core.new.system.state core.new.vault }
 {
     match run(clients, order, core, setting) {
         Ok(true) => RoundEnd::Done,
@@ -230,12 +230,12 @@ pub fn round<V: Store, G: Gate>(
 ) -> (Core<V>, Vec<Transcript>, RoundEnd)
     requires placed { AreBlocks (map told_of blocks.now) }
     requires files { IfSome (V.told core.vault.store) (HoldsPlaces core.regions.items) }
-    ensures leads { RoundGoes V.told V.may_leave V.faults precheck blocks.now core.regions.items core.system.state core.vault result.2 result.1.items result.0.regions.items result.0.system.state result.0.vault }
+    ensures leads { RoundGoes V.Store precheck blocks.now core.regions.items core.system.state core.vault result.2 result.1.items result.0.regions.items result.0.system.state result.0.vault }
     ensures clients { (map (λ t. t.client) result.1.items ≡ map (λ b. b.client) blocks.now) ⊎ (result.1.items ≡ []) }
     ensures nothing { length result.1.items < length blocks.now → result.0 ≡ core }
     ensures files { IfSome (V.told result.0.vault.store) (HoldsPlaces result.0.regions.items) }
     ensures longer { IsNoShorter V.told core.vault result.0.vault }
-    ensures any_moment { RoundLeavesRight V.told V.may_leave V.faults V.moment V.left_since core.regions.items core.system.state core.vault result.0.regions.items result.0.system.state result.0.vault }
+    ensures any_moment { RoundLeavesRight V.Store core.regions.items core.system.state core.vault result.0.regions.items result.0.system.state result.0.vault }
 {
     let mut core = core;
     let Ok((mut clients, order, room)) = clients_of(alloc, blocks) else {

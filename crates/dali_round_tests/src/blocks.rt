@@ -2,7 +2,7 @@
 ghost use Rattle.std.specs.Prelude.{◌≡◌, ◌∷◌, [], false, true, map, IfSome};
 ghost use Rattle.dali_record.specs.Spelling.{IsCall};
 ghost use Rattle.dali_transcripts.specs.Rounds.{IsPlaced, AreBlocks};
-ghost use Rattle.dali_clients.specs.Told.{act_of, told_of};
+ghost use Rattle.dali_transcripts.specs.Clients.Told.{act_of, told_of};
 ghost use Rattle.dali_round_tests.specs.Placing.{Leads, IsBlock};
 
 use anyhow::Result;

@@ -1,18 +1,19 @@
 //! What no clause says: rounds of one and of several clients, from their commands to their lines.
 ghost use Rattle.std.specs.Prelude.{◌≡◌, IfOk, IfSome};
-ghost use Rattle.dali_whole.specs.Cores.{HoldsPlaces};
+ghost use Rattle.dali_core.specs.Cores.{HoldsPlaces};
 
 use crate::blocks::{are_blocks, block, may_be_beside};
 use crate::tables::FULL_LOGS;
 use crate::texts::text_of;
 use anyhow::Result;
+use dali_core::Core;
+use dali_fuse::Fuse;
 use dali_geometry::Geometry;
 use dali_locks::{LockAnswer, Mode};
-use dali_memstore::{Fuse, MemoryStore};
+use dali_memstore::MemoryStore;
 use dali_restart::{format, restart};
 use dali_round::{Block, Gate, OpenGate, RoundEnd, Transcript, round};
 use dali_store::Store;
-use dali_whole::Core;
 use std::alloc::Global;
 use std::cell::Cell;
 use std::process::Abort;

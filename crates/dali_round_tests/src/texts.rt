@@ -3,7 +3,7 @@
 use anyhow::Result;
 use dali_record::{Answer, Call};
 use dali_round::{Command, Line, Transcript, Why};
-use dali_system::Cause;
+use dali_runs::Cause;
 use dali_words::Value;
 use std::alloc::Global;
 

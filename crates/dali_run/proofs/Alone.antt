@@ -1,7 +1,7 @@
 -- How a command ends a run.
 use Rattle.std.proofs.Common.{◌≡◌, ℕ, Bool, Result, Ok, Err, sym, subst}
 use Rattle.std.specs.Prelude.{IfErr, OnErr}
-use Rattle.dali_memstore.specs.declared.fuse.Fuse.{Fuse}
+use Rattle.dali_fuse.specs.declared.fuse.Fuse.{Fuse}
 use Rattle.dali_script.specs.declared.commands.Command.{Command}
 use Rattle.dali_script.specs.declared.commands.Command.TheVariants.{Open, Restart, Poke, Audit, Checkpoint}
 use Rattle.dali_store.specs.declared.store.Store.{Ghosts}

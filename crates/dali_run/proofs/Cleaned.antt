@@ -10,15 +10,15 @@ use Rattle.dali_record.proofs.Survivors.{has_filter}
 use Rattle.dali_region.specs.State.{RegionState}
 use Rattle.dali_att.specs.declared.state.State.{State}
 use Rattle.dali_att.specs.declared.state.State.TheVariants.{Dead}
-use Rattle.dali_memstore.specs.declared.fuse.Fuse.{Fuse}
+use Rattle.dali_fuse.specs.declared.fuse.Fuse.{Fuse}
 use Rattle.dali_store.specs.declared.store.Store.{Ghosts}
-use Rattle.dali_system.specs.declared.causes.Cause.{Cause}
-use Rattle.dali_system.specs.State.{SystemState, TxnRow, row_of, state_in, state_of}
+use Rattle.dali_runs.specs.declared.causes.Cause.{Cause}
+use Rattle.dali_runs.specs.State.{SystemState, TxnRow, row_of, state_in, state_of}
 use Rattle.dali_transcripts.specs.World.{is_dead_in}
 use Rattle.dali_clean.specs.Cleaned.{IsDead}
 use Rattle.dali_clean.specs.Others.{RowStays}
-use Rattle.dali_core.specs.Served.{Served}
-use Rattle.dali_whole.specs.declared.whole.Core.{Core}
+use Rattle.dali_system.specs.Served.{Served}
+use Rattle.dali_core.specs.declared.whole.Core.{Core}
 use Rattle.dali_report.specs.Lines.{texts}
 use Rattle.dali_report.specs.declared.printed.Line.TheVariants as lines
 use Rattle.dali_run.specs.declared.program.Program.TheVariants.{Up}

@@ -8,28 +8,28 @@ use Rattle.dali_att.specs.declared.state.State.TheVariants.{Live, Dead, Cleaning
 use Rattle.dali_att.specs.Table.{with_state}
 use Rattle.dali_clean.specs.Cleaned.{AreDead, IsDead}
 use Rattle.dali_clean.specs.Others.{RowStays}
-use Rattle.dali_core.specs.Served.{Served}
+use Rattle.dali_system.specs.Served.{Served}
 use Rattle.dali_crash.specs.Checkpoints.{Does, IsPointCourse, Point, StoreStep}
 use Rattle.dali_crash.specs.StoreRuns.{FlagTells}
 use Rattle.dali_crash.specs.Traces.{Start}
 use Rattle.dali_crash.proofs.Flags.{flag_changes, flag_stays}
 use Rattle.dali_checkpoint.proofs.Calls.{course_join}
-use Rattle.dali_memstore.specs.declared.fuse.Fuse.{Fuse}
+use Rattle.dali_fuse.specs.declared.fuse.Fuse.{Fuse}
 use Rattle.dali_record.specs.declared.records.Record.{Record}
 use Rattle.dali_region.specs.declared.Hold.{Hold}
 use Rattle.dali_region.specs.State.{RegionState}
 use Rattle.dali_round.specs.Leads.{BeginsAt}
 use Rattle.dali_store.specs.declared.store.Store.{Ghosts}
-use Rattle.dali_system.specs.Courses.{Step}
-use Rattle.dali_system.specs.State.{SystemState, TxnRow, row_of, state_in, state_of}
+use Rattle.dali_runs.specs.Courses.{Step}
+use Rattle.dali_runs.specs.State.{SystemState, TxnRow, row_of, state_in, state_of}
 use Rattle.dali_transcripts.specs.Rounds.{IsBetween}
 use Rattle.dali_transcripts.specs.World.{is_claimed_in, is_dead_in}
-use Rattle.dali_vault.specs.Vaulted.{Vaulted}
-use Rattle.dali_whole.specs.declared.whole.Core.{Core}
-use Rattle.dali_whole.specs.Cores.{HoldsPlaces, IsCoreAt}
+use Rattle.dali_core.specs.Vault.Vaulted.{Vaulted}
+use Rattle.dali_core.specs.declared.whole.Core.{Core}
+use Rattle.dali_core.specs.Cores.{HoldsPlaces, IsCoreAt}
 use Rattle.dali_run.specs.Program.{told_in, leaves_in, faults_in}
 use Rattle.dali_run.specs.Steps.{CleansAll, CleansUp, HasCleanedUp, IsSame}
-use Rattle.dali_whole.proofs.Lengths.{flags_hold}
+use Rattle.dali_core.proofs.Lengths.{flags_hold}
 
 -- ---- rows
 abbrev pub AllDead : SystemState → Type 0

@@ -1,12 +1,12 @@
 -- How a comparison with a replay ends.
 use Rattle.std.proofs.Common.{◌≡◌, ℕ, Bool, List, Option, Some, None, Result, Err, refl, sym, ◌∙◌, ap}
 use Rattle.std.specs.Prelude.{IsErrOf}
-use Rattle.dali_memstore.specs.declared.fuse.Fuse.{Fuse}
+use Rattle.dali_fuse.specs.declared.fuse.Fuse.{Fuse}
 use Rattle.dali_store.specs.declared.store.Store.{Ghosts}
-use Rattle.dali_system.specs.declared.causes.Cause.{Cause}
+use Rattle.dali_runs.specs.declared.causes.Cause.{Cause}
 use Rattle.dali_verify.specs.declared.error.VerifyError.{VerifyError}
 use Rattle.dali_verify.specs.declared.error.VerifyError.TheVariants.{Fault, BadLog}
-use Rattle.dali_whole.specs.declared.whole.Core.{Core}
+use Rattle.dali_core.specs.declared.whole.Core.{Core}
 use Rattle.dali_run.specs.declared.program.Program.TheVariants.{Up}
 use Rattle.dali_run.specs.Steps.{EndsComparison, HasCleaned, VerifyIn}
 

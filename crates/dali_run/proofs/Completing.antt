@@ -3,8 +3,8 @@ use Rattle.std.proofs.Common.{◌≡◌, ◌≤◌, ◌<◌, ℕ, ◌+◌, zero,
 use Rattle.std.specs.Prelude.{IfSome, is_some}
 use Rattle.std.specs.List.{AllByRecursion}
 use Rattle.dali_arguments.specs.declared.task.Task.TheVariants.{Run}
-use Rattle.dali_batch.specs.Batch.{IsUnformatted}
-use Rattle.dali_memstore.specs.Fuse.{inner, passes_of}
+use Rattle.dali_log.specs.Batch.{IsUnformatted}
+use Rattle.dali_fuse.specs.Fuse.{inner, passes_of}
 use Rattle.dali_record.specs.declared.records.Record.{Record}
 use Rattle.dali_restart.specs.Formatted.{first_record}
 use Rattle.dali_script.specs.declared.commands.Command.{Command}

@@ -6,9 +6,9 @@ use Rattle.std.specs.Prelude.{◌⊎◌, ◌||◌, ◌&&◌, ◌==◌, is_some}
 use Rattle.std.specs.List.{list_all, list_any}
 use Rattle.std.proofs.lemmas.List.Folds.{list_any-append}
 use Rattle.std.proofs.lemmas.Bool.{or_cases, or_right}
-use Rattle.dali_clients.specs.Said.{Transcribed}
-use Rattle.dali_memstore.specs.Fuse.{passes_of, failed_by, failed_of}
-use Rattle.dali_memstore.specs.declared.fuse.Fuse.{Fuse}
+use Rattle.dali_transcripts.specs.Clients.Said.{Transcribed}
+use Rattle.dali_fuse.specs.Fuse.{passes_of, failed_by, failed_of}
+use Rattle.dali_fuse.specs.declared.fuse.Fuse.{Fuse}
 use Rattle.dali_record.specs.declared.records.Record.{Record}
 use Rattle.dali_round.specs.Leads.{lines_in}
 use Rattle.dali_script.specs.declared.commands.Command.{Command}
@@ -16,14 +16,14 @@ use Rattle.dali_script.specs.declared.commands.Command.TheVariants.{Size, Open, 
 use Rattle.dali_store.specs.Faults.{Rose}
 use Rattle.dali_store.specs.Store.{Files as Disk}
 use Rattle.dali_store.specs.declared.store.Store.{Ghosts}
-use Rattle.dali_system.specs.Run.{HasRisen}
-use Rattle.dali_system.specs.State.{CoreState}
+use Rattle.dali_runs.specs.Run.{HasRisen}
+use Rattle.dali_runs.specs.State.{CoreState}
 use Rattle.dali_transcripts.specs.Moves.{Receipt, Place, Outside, Spot, Move, Begins, IsRefusedBegin, Pokes as PokesOnce, PokesNothing, Audits as AuditsOnce, IsRefusedAudit, Checkpoints as ChecksOnce, FailsCheckpoint, IsRefusedCheckpoint, from, said, own, to, start, spanned, refused_own}
 use Rattle.dali_transcripts.specs.Transcripts.{EachTells, IsPath, MayBeCut, count_with, deeds_of, own_by, owned, owned_one, said_by}
 use Rattle.dali_transcripts.specs.Words.{Act, Pokes, Audits, Checkpoints, Said, Refused, Why, StoppedBy, Full, Damaged, StoreFailed, UnderWay}
 use Rattle.dali_transcripts.specs.World.{Deed, EndsCheckpoint, Happening, Meets, World, failing, has_failed}
 use Rattle.dali_transcripts.proofs.Together.{stays_failed}
-use Rattle.dali_whole.specs.declared.whole.Core.{Core}
+use Rattle.dali_core.specs.declared.whole.Core.{Core}
 use Rattle.dali_run.specs.declared.program.Program.{Program}
 use Rattle.dali_run.specs.declared.program.Program.TheVariants.{Up, Down}
 use Rattle.dali_run.specs.Complete.{OwnRose}

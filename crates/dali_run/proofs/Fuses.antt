@@ -1,12 +1,12 @@
 -- A program whose fuse is set anew.
 use Rattle.std.proofs.Common.{◌≡◌, ℕ, refl, sym, ap, subst}
 use Rattle.std.specs.Prelude.{IfSome}
-use Rattle.dali_memstore.specs.Fuse.{inner}
-use Rattle.dali_memstore.specs.declared.fuse.Fuse.{Fuse}
+use Rattle.dali_fuse.specs.Fuse.{inner}
+use Rattle.dali_fuse.specs.declared.fuse.Fuse.{Fuse}
 use Rattle.dali_store.specs.declared.store.Store.{Ghosts}
-use Rattle.dali_vault.specs.Vaulted.{Vaulted, with_store}
-use Rattle.dali_whole.specs.declared.whole.Core.{Core}
-use Rattle.dali_whole.specs.Cores.{HoldsPlaces}
+use Rattle.dali_core.specs.Vault.Vaulted.{Vaulted, with_store}
+use Rattle.dali_core.specs.declared.whole.Core.{Core}
+use Rattle.dali_core.specs.Cores.{HoldsPlaces}
 use Rattle.dali_run.specs.declared.program.Program.{Program}
 use Rattle.dali_run.specs.declared.program.Program.TheVariants.{Up, Down}
 use Rattle.dali_run.specs.Program.{HoldsImages, told_in}

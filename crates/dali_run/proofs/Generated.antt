@@ -2,13 +2,13 @@
 use Rattle.std.proofs.Common.{◌≡◌, ◌∙◌, ℕ, Bool, true, false, List, [], ◌∷◌, Option, Some, None, Result, Ok, Err, length, map, refl, sym, ap, subst}
 use Rattle.std.proofs.Common.{inl, inr}
 use Rattle.std.specs.Prelude.{IfErr, OnOk, nat_lt}
-use Rattle.dali_clients.specs.Said.{Transcribed}
+use Rattle.dali_transcripts.specs.Clients.Said.{Transcribed}
 use Rattle.dali_generator.specs.Generated.{generated, index_regions, heap_regions}
 use Rattle.dali_generator.specs.Summary.{summary_of}
 use Rattle.dali_listing.specs.declared.Listed.{Listed}
 use Rattle.dali_listing.specs.Listing.{IsListing, in_memory}
-use Rattle.dali_memstore.specs.Fuse.{inner}
-use Rattle.dali_memstore.specs.declared.fuse.Fuse.{Fuse}
+use Rattle.dali_fuse.specs.Fuse.{inner}
+use Rattle.dali_fuse.specs.declared.fuse.Fuse.{Fuse}
 use Rattle.dali_round.specs.Leads.{lines_in}
 use Rattle.dali_script.specs.declared.commands.Command.{Command}
 use Rattle.dali_script.specs.declared.commands.Command.TheVariants.{Size, Crash, Restart}
@@ -16,12 +16,12 @@ use Rattle.dali_store.specs.declared.store.Store.{Ghosts}
 use Rattle.dali_streams.specs.Streams.{Appends}
 use Rattle.dali_streams.specs.declared.streams.Sink.{Ghosts as SinkGhosts}
 use Rattle.dali_streams.specs.declared.streams.Source.{Ghosts as SourceGhosts}
-use Rattle.dali_system.specs.declared.causes.Cause.{Cause}
-use Rattle.dali_system.specs.declared.causes.Cause.TheVariants.{Damage, Store}
+use Rattle.dali_runs.specs.declared.causes.Cause.{Cause}
+use Rattle.dali_runs.specs.declared.causes.Cause.TheVariants.{Damage, Store}
 use Rattle.dali_transcripts.specs.Transcripts.{Told}
 use Rattle.dali_transcripts.specs.Words.{Said, Refused, StoppedBy}
-use Rattle.dali_whole.specs.Cores.{IsNoShorter}
-use Rattle.dali_whole.specs.declared.whole.Core.{Core}
+use Rattle.dali_core.specs.Cores.{IsNoShorter}
+use Rattle.dali_core.specs.declared.whole.Core.{Core}
 use Rattle.dali_run.specs.declared.halt.Halt.{Halt}
 use Rattle.dali_run.specs.declared.halt.Halt.TheVariants.{BadWords, BadScript, TooLong, ReadFault, WriteFault, StoreFault, BadStore, Unformatted, Formatted, LogFull, TooSmall, NotLoaded, OutOfMemory}
 use Rattle.dali_run.specs.declared.program.Program.{Program}

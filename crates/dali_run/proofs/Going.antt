@@ -3,13 +3,13 @@ use Rattle.std.proofs.Common.{[], ◌∷◌, ◌++◌, Option, Some, None, refl,
 use Rattle.std.specs.Prelude.{IfSome}
 use Rattle.dali_store.specs.Store.{Files as Disk}
 use Rattle.dali_store.specs.declared.store.Store.{Ghosts}
-use Rattle.dali_system.specs.State.{SystemState}
-use Rattle.dali_traces.specs.Disks.{AllSpell}
-use Rattle.dali_traces.specs.Bridges.{TracedTo}
-use Rattle.dali_vault.specs.Vaulted.{Vaulted}
-use Rattle.dali_again.specs.Found.{FindsIt}
-use Rattle.dali_again.proofs.Found.{crash_is_found}
-use Rattle.dali_again.proofs.Places.{start_has_place}
+use Rattle.dali_runs.specs.State.{SystemState}
+use Rattle.dali_crash.specs.Disks.Disks.{AllSpell}
+use Rattle.dali_crash.specs.Disks.Bridges.{TracedTo}
+use Rattle.dali_core.specs.Vault.Vaulted.{Vaulted}
+use Rattle.dali_resume.specs.Interrupted.Found.{FindsIt}
+use Rattle.dali_resume.proofs.InterruptedLemmas.Found.{crash_is_found}
+use Rattle.dali_resume.proofs.InterruptedLemmas.Places.{start_has_place}
 use Rattle.dali_restart.specs.Headline.{EachRestart, AnswersRight}
 use Rattle.dali_restart.proofs.Headline.{crash_restarts_right}
 use Rattle.dali_checkpoint.proofs.Calls.{course_join}
@@ -28,8 +28,8 @@ module _ {V : Type 0} (g : Ghosts V) where
         steps = [];
         course = refl;
         begins =
-            subst (λ l. BeginsAt g.told g.may_leave g.faults s B p l z u) (sym rows.0)
-            (subst (λ (m : SystemState). BeginsAt g.told g.may_leave g.faults s B p gs m u) (sym rows.1) (subst (λ (w : Vaulted V). BeginsAt g.told g.may_leave g.faults s B p gs y w) (sym rows.2) begins));
+            subst (λ l. BeginsAt g s B p l z u) (sym rows.0)
+            (subst (λ (m : SystemState). BeginsAt g s B p gs m u) (sym rows.1) (subst (λ (w : Vaulted V). BeginsAt g s B p gs y w) (sym rows.2) begins));
       }
   rounds_begin s B p gs hs y z v u (r ∷ rs) begins rows =
       let led = rows.0 s B p begins in

@@ -8,11 +8,11 @@ use Rattle.dali_arguments.specs.Meaning.{meaning}
 use Rattle.dali_arguments.specs.declared.task.Task.{Task}
 use Rattle.dali_arguments.specs.declared.task.Task.TheVariants.{Run, Generate, Dump, Show, Status as Standing, Load}
 use Rattle.dali_arguments.proofs.InRange.{in_range}
-use Rattle.dali_clients.specs.Said.{Transcribed}
+use Rattle.dali_transcripts.specs.Clients.Said.{Transcribed}
 use Rattle.dali_generator.specs.Generated.{AreWithin, block, draw, generated, index_regions, heap_regions, key_of, transaction, value_of}
 use Rattle.dali_generator.proofs.Right.{right_round, right_sizes}
-use Rattle.dali_memstore.specs.Fuse.{inner}
-use Rattle.dali_memstore.specs.declared.fuse.Fuse.{Fuse}
+use Rattle.dali_fuse.specs.Fuse.{inner}
+use Rattle.dali_fuse.specs.declared.fuse.Fuse.{Fuse}
 use Rattle.dali_record.specs.declared.records.Record.{Record}
 use Rattle.dali_round.specs.Leads.{lines_in}
 use Rattle.dali_script.specs.declared.commands.Block.{Block}
@@ -25,8 +25,8 @@ use Rattle.dali_store.specs.declared.store.Store.{Ghosts}
 use Rattle.dali_transcripts.specs.Words.{Act, Audits, Checkpoints, Said}
 use Rattle.dali_transcripts.specs.Transcripts.{Told as Blocks}
 use Rattle.dali_transcripts.specs.Rounds.{AreBlocks, IsPlaced}
-use Rattle.dali_whole.specs.declared.whole.Core.{Core}
-use Rattle.dali_whole.specs.Cores.{IsNoShorter}
+use Rattle.dali_core.specs.declared.whole.Core.{Core}
+use Rattle.dali_core.specs.Cores.{IsNoShorter}
 use Rattle.dali_run.specs.declared.halt.Halt.{Halt}
 use Rattle.dali_run.specs.declared.halt.Halt.TheVariants as halts
 use Rattle.dali_run.specs.declared.program.Program.{Program}

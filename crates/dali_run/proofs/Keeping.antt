@@ -8,16 +8,16 @@ use Rattle.dali_arguments.specs.Laws.{IsInRange}
 use Rattle.dali_arguments.specs.declared.task.Task.{Task}
 use Rattle.dali_arguments.specs.declared.task.Task.TheVariants.{Run, Generate, Dump, Show, Status as Standing, Load}
 use Rattle.dali_arguments.proofs.InRange.{in_range}
-use Rattle.dali_again.specs.Found.{FindsIt}
-use Rattle.dali_batch.specs.Reads.{OnlyReads}
-use Rattle.dali_clients.specs.Said.{Transcribed}
+use Rattle.dali_resume.specs.Interrupted.Found.{FindsIt}
+use Rattle.dali_log.specs.Reads.{OnlyReads}
+use Rattle.dali_transcripts.specs.Clients.Said.{Transcribed}
 use Rattle.dali_generator.specs.Generated.{AreWithin, generated, index_regions, heap_regions}
 use Rattle.dali_generator.proofs.Right.{right_sizes}
-use Rattle.dali_headline.proofs.Headline.{restart_is_right}
+use Rattle.dali_history.proofs.HeadlineLemmas.Headline.{restart_is_right}
 use Rattle.dali_history.specs.History.{HasExpected, IsHistory}
 use Rattle.dali_history.proofs.Chained.{committed_stays}
-use Rattle.dali_memstore.specs.Fuse.{inner}
-use Rattle.dali_memstore.specs.declared.fuse.Fuse.{Fuse}
+use Rattle.dali_fuse.specs.Fuse.{inner}
+use Rattle.dali_fuse.specs.declared.fuse.Fuse.{Fuse}
 use Rattle.dali_record.specs.declared.records.Record.{Record}
 use Rattle.dali_record.specs.Files.{Files}
 use Rattle.dali_record.specs.Log.{committed}
@@ -30,13 +30,13 @@ use Rattle.dali_script.specs.declared.commands.Command.{Command}
 use Rattle.dali_script.specs.declared.commands.Command.TheVariants.{Size, Open, Round, Poke, Audit, Checkpoint, Cleanup, Crash, Restart, Show, Verify, Next, Fuse as SetFuse}
 use Rattle.dali_store.specs.Store.{Files as Disk}
 use Rattle.dali_store.specs.declared.store.Store.{Ghosts}
-use Rattle.dali_system.specs.Run.{log_in}
-use Rattle.dali_system.specs.State.{CoreState, stable}
+use Rattle.dali_runs.specs.Run.{log_in}
+use Rattle.dali_runs.specs.State.{CoreState, stable}
 use Rattle.dali_transcripts.specs.Transcripts.{Told as Blocks}
 use Rattle.dali_transcripts.specs.Words.{Act, Pokes, Audits, Checkpoints}
 use Rattle.dali_transcripts.specs.World.{log_of}
 use Rattle.dali_transcripts.proofs.Lists.{none_in}
-use Rattle.dali_whole.specs.declared.whole.Core.{Core}
+use Rattle.dali_core.specs.declared.whole.Core.{Core}
 use Rattle.dali_run.specs.declared.halt.Halt.{Halt}
 use Rattle.dali_run.specs.declared.halt.Halt.TheVariants as halts
 use Rattle.dali_run.specs.declared.program.Program.{Program}

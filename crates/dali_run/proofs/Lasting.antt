@@ -9,12 +9,12 @@ use Rattle.dali_record.specs.Damage.{has}
 use Rattle.dali_record.specs.Epochs.{Cut, Epoch, failing, last_epoch}
 use Rattle.dali_record.specs.Files.{Files}
 use Rattle.dali_region.specs.State.{RegionState}
-use Rattle.dali_system.specs.Courses.{Moment, RunsAt}
-use Rattle.dali_system.specs.Crashes.{NoneEscapes}
-use Rattle.dali_system.specs.Run.{Bases, IsPrefix, RegionRun, RunsOn, base_at, blocks_on, log_in, no_image, only}
-use Rattle.dali_system.specs.State.{CoreState, stable}
-use Rattle.dali_system.proofs.Courses.{runs_on}
-use Rattle.dali_system.proofs.OneMoreTouch.{blocks_on-take}
+use Rattle.dali_runs.specs.Courses.{Moment, RunsAt}
+use Rattle.dali_runs.specs.Crashes.{NoneEscapes}
+use Rattle.dali_runs.specs.Run.{Bases, IsPrefix, RegionRun, RunsOn, base_at, blocks_on, log_in, no_image, only}
+use Rattle.dali_runs.specs.State.{CoreState, stable}
+use Rattle.dali_runs.proofs.Courses.{runs_on}
+use Rattle.dali_runs.proofs.OneMoreTouch.{blocks_on-take}
 use Rattle.dali_crash.specs.Checkpoints.{Point, StoreStep, IsPointStep, IsPointCourse, moment_of}
 use Rattle.dali_crash.specs.CrashLogs.{cut_to}
 use Rattle.dali_crash.specs.Traces.{Start, bases_of, start_point}
@@ -23,7 +23,7 @@ use Rattle.dali_crash.proofs.StoreRuns.{store_step_none}
 use Rattle.dali_crash.proofs.StoreStarts.{store_goes}
 use Rattle.dali_crash.proofs.Traces.{moment_halts, trace_runs}
 use Rattle.dali_store.specs.declared.store.Store.{Ghosts}
-use Rattle.dali_traces.specs.Bridges.{ComesTo}
+use Rattle.dali_crash.specs.Disks.Bridges.{ComesTo}
 use Rattle.dali_run.specs.Honest.{EndsTellRounds}
 use Rattle.dali_run.proofs.Lasts.{Lasts, stays, on, point_was, never_yet}
 use Rattle.dali_run.proofs.Poked.{course_runs}

@@ -6,10 +6,10 @@ use Rattle.dali_region.specs.declared.Side.{Side}
 use Rattle.dali_region.specs.declared.Side.TheVariants.{A, B}
 use Rattle.dali_region.specs.Answers.{cleaned}
 use Rattle.dali_region.specs.State.{RegionState, checked, counted, dead, taken_back, touched}
-use Rattle.dali_system.specs.Courses.{Step, Begins, Operates, TakesBack, Frees, Answers, Commits, Ends, AuditBegins, AuditEnds, Locks, Refuses, OnRegion, Passes, Dies, Claims, GivesBack, Recovers, Stops, Checkpoints, Takes, Flushes, Faults, ReadFails, Moment, IsStepAt}
-use Rattle.dali_system.specs.Regions.{RegionStep, Latch, NoteReads, Update, TakeBack, Poke, Check, Die, Clean, region_after}
-use Rattle.dali_system.specs.State.{CoreState}
-use Rattle.dali_system.proofs.Deaths.{dead_at, region_with}
+use Rattle.dali_runs.specs.Courses.{Step, Begins, Operates, TakesBack, Frees, Answers, Commits, Ends, AuditBegins, AuditEnds, Locks, Refuses, OnRegion, Passes, Dies, Claims, GivesBack, Recovers, Stops, Checkpoints, Takes, Flushes, Faults, ReadFails, Moment, IsStepAt}
+use Rattle.dali_runs.specs.Regions.{RegionStep, Latch, NoteReads, Update, TakeBack, Poke, Check, Die, Clean, region_after}
+use Rattle.dali_runs.specs.State.{CoreState}
+use Rattle.dali_runs.proofs.Deaths.{dead_at, region_with}
 use Rattle.dali_crash.specs.Checkpoints.{Point, StoreStep, Does, Keeps, Copies, Skips, Turns, CopyFails, TurnFails, target, IsPointStep, moment_of}
 
 -- ---- one region

@@ -4,19 +4,19 @@ use Rattle.std.specs.Prelude.{◌||◌, IfSome, is_some}
 use Rattle.std.specs.List.{list_any}
 use Rattle.dali_arguments.specs.Laws.{IsInRange}
 use Rattle.dali_arguments.specs.declared.task.Task.TheVariants.{Load}
-use Rattle.dali_batch.specs.Reads.{OnlyReads}
+use Rattle.dali_log.specs.Reads.{OnlyReads}
 use Rattle.dali_listing.specs.declared.Listed.{Listed}
 use Rattle.dali_load.specs.Answers.{expected}
 use Rattle.dali_load.specs.Scripts.{group_at, groups, insert, round_of, script_of}
 use Rattle.dali_load.proofs.Loadable.{right_script}
-use Rattle.dali_memstore.specs.Fuse.{inner}
+use Rattle.dali_fuse.specs.Fuse.{inner}
 use Rattle.dali_record.specs.declared.records.Record.{Record}
 use Rattle.dali_script.specs.declared.commands.ClientCommand.TheVariants.{Commit}
 use Rattle.dali_script.specs.declared.commands.Command.{Command}
 use Rattle.dali_script.specs.declared.commands.Command.TheVariants.{Checkpoint}
 use Rattle.dali_store.specs.Store.{Files as Disk}
 use Rattle.dali_store.specs.declared.store.Store.{Ghosts}
-use Rattle.dali_system.specs.Run.{log_in}
+use Rattle.dali_runs.specs.Run.{log_in}
 use Rattle.dali_run.specs.declared.halt.Halt.{Halt}
 use Rattle.dali_run.specs.declared.halt.Halt.TheVariants as halts
 use Rattle.dali_run.specs.declared.status.Status.{Status}

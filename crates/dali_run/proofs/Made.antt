@@ -8,12 +8,12 @@ use Rattle.dali_region.specs.declared.Hold.{Hold}
 use Rattle.dali_region.specs.State.{RegionState, IsLive, loaded}
 use Rattle.dali_history.specs.Recovered.{recovered}
 use Rattle.dali_store.specs.declared.store.Store.{Ghosts}
-use Rattle.dali_system.specs.State.{SystemState, CoreState, TxnRow, row_of, state_in}
-use Rattle.dali_system.specs.Wholes.{IsWhole}
+use Rattle.dali_runs.specs.State.{SystemState, CoreState, TxnRow, row_of, state_in}
+use Rattle.dali_runs.specs.Wholes.{IsWhole}
 use Rattle.dali_crash.specs.Traces.{Start, start_point}
-use Rattle.dali_vault.specs.Vaulted.{Vaulted}
-use Rattle.dali_whole.specs.Cores.{IsWholeCore, IsCoreAt}
-use Rattle.dali_rise.specs.Risen.{start_at}
+use Rattle.dali_core.specs.Vault.Vaulted.{Vaulted}
+use Rattle.dali_core.specs.Cores.{IsWholeCore, IsCoreAt}
+use Rattle.dali_restart.specs.Rise.Risen.{start_at}
 use Rattle.dali_transcripts.specs.World.{is_claimed_in}
 use Rattle.dali_round.specs.Leads.{BeginsAt}
 use Rattle.dali_run.specs.Chain.{FormatBegins, RestartBegins}
@@ -39,8 +39,8 @@ not_live g e live = by_hold g.hold e live
     by_hold (Some h) e live = absurd (cc)
 
 module _ {V : Type 0} (g : Ghosts V) where
-  pub made_begins : (s : Start) (B : List (List Record)) (gs : List RegionState) (y : SystemState) (v : Vaulted V) → IsCoreAt g.told g.may_leave g.faults s B (start_point s) gs y v → IsWholeCore g.told gs y v → v.stopped ≡ false
-      → BeginsAt g.told g.may_leave g.faults s B (start_point s) gs y v
+  pub made_begins : (s : Start) (B : List (List Record)) (gs : List RegionState) (y : SystemState) (v : Vaulted V) → IsCoreAt g s B (start_point s) gs y v → IsWholeCore g.told gs y v → v.stopped ≡ false
+      → BeginsAt g s B (start_point s) gs y v
   made_begins s B gs y v at whole runs = record {
     stands = record { at = at; whole = whole_there; dead = λ r x e. dead_hold x.hold (none_at r x (at.regions ∙ refl) e) };
     files = whole.files;
@@ -78,7 +78,7 @@ module _ {V : Type 0} (g : Ghosts V) where
   restart_begins limit fs F gs y v fresh whole begins spells finds words heads synced =
       let from = begins F spells finds in
       record {
-        start = start_at g.told g.may_leave g.faults from.log from.rules limit v words heads synced;
+        start = start_at g from.log from.rules limit v words heads synced;
         log = from.goes_on;
         history = from.history;
         limit_is = refl;

@@ -4,17 +4,17 @@ use Rattle.std.specs.Prelude.{slice_get, slice_set}
 use Rattle.std.specs.List.{list_all}
 use Rattle.dali_clean.specs.Steps.{is_own_change, is_own_step}
 use Rattle.dali_clean.proofs.Steps.{own_steps}
-use Rattle.dali_core.specs.Served.{Served}
+use Rattle.dali_system.specs.Served.{Served}
 use Rattle.dali_crash.specs.Checkpoints.{Does, IsPointCourse, Point, moment_of}
 use Rattle.dali_crash.specs.Traces.{Start}
-use Rattle.dali_memstore.specs.declared.fuse.Fuse.{Fuse}
+use Rattle.dali_fuse.specs.declared.fuse.Fuse.{Fuse}
 use Rattle.dali_record.specs.declared.records.Record.{Record}
 use Rattle.dali_region.specs.State.{RegionState, loaded, taken_back, touched}
 use Rattle.dali_store.specs.declared.store.Store.{Ghosts}
-use Rattle.dali_system.specs.Courses.{Step, TakesBack, Ends, OnRegion, Claims, GivesBack, Recovers, Moment, IsStepAt}
-use Rattle.dali_system.specs.Regions.{RegionStep, Poke, Clean, region_after}
-use Rattle.dali_system.specs.State.{CoreState, SystemState}
-use Rattle.dali_whole.specs.declared.whole.Core.{Core}
+use Rattle.dali_runs.specs.Courses.{Step, TakesBack, Ends, OnRegion, Claims, GivesBack, Recovers, Moment, IsStepAt}
+use Rattle.dali_runs.specs.Regions.{RegionStep, Poke, Clean, region_after}
+use Rattle.dali_runs.specs.State.{CoreState, SystemState}
+use Rattle.dali_core.specs.declared.whole.Core.{Core}
 use Rattle.std.proofs.lemmas.Bool.{eq-eqb, and_parts as both}
 use Rattle.dali_lists.proofs.Lists.{EachFrom, each_same, each_set, each_then}
 use Rattle.dali_run.specs.Steps.{dead_in, CleansAll, CleansUp, HasCleaned}

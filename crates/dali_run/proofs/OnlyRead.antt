@@ -1,26 +1,26 @@
 -- A core whose store was only read stands where it stood, or one step behind: where the store's count of faults rose.
 use Rattle.std.proofs.Common.{◌≡◌, ℕ, List, Option, refl, sym, ◌∙◌, ap, subst}
 use Rattle.std.specs.Prelude.{IfSome}
-use Rattle.dali_batch.specs.Reads.{OnlyReads}
+use Rattle.dali_log.specs.Reads.{OnlyReads}
 use Rattle.dali_crash.specs.Checkpoints.{Does, IsPointStep, Point}
 use Rattle.dali_crash.specs.Traces.{Start, bases_of}
 use Rattle.dali_crash.proofs.Flags.{flag_stays}
-use Rattle.dali_memstore.specs.declared.fuse.Fuse.{Fuse}
+use Rattle.dali_fuse.specs.declared.fuse.Fuse.{Fuse}
 use Rattle.dali_record.specs.declared.records.Record.{Record}
 use Rattle.dali_region.specs.State.{RegionState}
 use Rattle.dali_round.specs.Leads.{BeginsAt}
-use Rattle.dali_steps.proofs.Steps.{read_faults, read_stays}
+use Rattle.dali_core.proofs.StepsLemmas.Steps.{read_faults, read_stays}
 use Rattle.dali_store.specs.Faults.{Rose}
 use Rattle.dali_store.specs.Store.{Files as Disk}
 use Rattle.dali_store.specs.declared.store.Store.{Ghosts}
-use Rattle.dali_system.specs.Courses.{ReadFails}
-use Rattle.dali_system.specs.Flushes.{read_failed, with_vault}
-use Rattle.dali_system.specs.Run.{RunsOn}
-use Rattle.dali_system.specs.State.{CoreState, SystemState}
-use Rattle.dali_system.proofs.WholeSteps.{whole_keeps}
+use Rattle.dali_runs.specs.Courses.{ReadFails}
+use Rattle.dali_runs.specs.Flushes.{read_failed, with_vault}
+use Rattle.dali_runs.specs.Run.{RunsOn}
+use Rattle.dali_runs.specs.State.{CoreState, SystemState}
+use Rattle.dali_runs.proofs.WholeSteps.{whole_keeps}
 use Rattle.dali_transcripts.specs.Rounds.{IsBetween}
-use Rattle.dali_vault.specs.Vaulted.{Vaulted, with_store}
-use Rattle.dali_whole.specs.Cores.{HoldsPlaces}
+use Rattle.dali_core.specs.Vault.Vaulted.{Vaulted, with_store}
+use Rattle.dali_core.specs.Cores.{HoldsPlaces}
 use Rattle.dali_run.specs.Program.{told_in, leaves_in, moment_in, since_in, faults_in}
 
 -- nothing that a round asks for speaks of the count

@@ -5,9 +5,9 @@ use Rattle.dali_lists.proofs.Lists.{get_within}
 use Rattle.dali_geometry.specs.Places.{regions}
 use Rattle.dali_record.specs.declared.records.Record.{Record}
 use Rattle.dali_region.specs.State.{RegionState}
-use Rattle.dali_system.specs.Courses.{RunsAt}
-use Rattle.dali_system.specs.Run.{Bases, no_image}
-use Rattle.dali_system.proofs.Courses.{runs_on}
+use Rattle.dali_runs.specs.Courses.{RunsAt}
+use Rattle.dali_runs.specs.Run.{Bases, no_image}
+use Rattle.dali_runs.proofs.Courses.{runs_on}
 use Rattle.dali_crash.specs.Checkpoints.{Point, StoreStep, IsPointStep, IsPointCourse, moment_of}
 use Rattle.dali_crash.proofs.StoreRuns.{store_step_none}
 use Rattle.dali_crash.proofs.StoreStarts.{store_goes}

@@ -2,24 +2,24 @@
 use Rattle.std.proofs.Common.{◌≡◌, ◌≤◌, ℕ, Bool, true, false, List, [], ◌∷◌, Option, Some, None, refl, sym, ◌∙◌, ap, subst, inl, inr, ⊎_elim, arith}
 use Rattle.std.specs.Prelude.{IfSome, is_some}
 use Rattle.std.proofs.lemmas.Bool.{ltb-false}
-use Rattle.dali_clients.specs.Said.{Transcribed}
+use Rattle.dali_transcripts.specs.Clients.Said.{Transcribed}
 use Rattle.dali_generator.specs.Generated.{index_regions, heap_regions}
-use Rattle.dali_memstore.specs.Fuse.{failed_of, passes_of}
-use Rattle.dali_memstore.specs.declared.fuse.Fuse.{Fuse}
+use Rattle.dali_fuse.specs.Fuse.{failed_of, passes_of}
+use Rattle.dali_fuse.specs.declared.fuse.Fuse.{Fuse}
 use Rattle.dali_record.specs.declared.records.Record.{Record}
 use Rattle.dali_round.specs.Leads.{lines_in}
 use Rattle.dali_script.specs.declared.commands.Command.{Command}
 use Rattle.dali_script.specs.declared.commands.Command.TheVariants.{Size}
 use Rattle.dali_store.specs.Store.{Files as Disk}
 use Rattle.dali_store.specs.declared.store.Store.{Ghosts}
-use Rattle.dali_system.specs.declared.causes.Cause.{Cause}
-use Rattle.dali_system.specs.declared.causes.Cause.TheVariants.{Damage, Store}
-use Rattle.dali_system.specs.State.{CoreState, SystemState}
+use Rattle.dali_runs.specs.declared.causes.Cause.{Cause}
+use Rattle.dali_runs.specs.declared.causes.Cause.TheVariants.{Damage, Store}
+use Rattle.dali_runs.specs.State.{CoreState, SystemState}
 use Rattle.dali_transcripts.specs.Transcripts.{Told as Blocks}
 use Rattle.dali_transcripts.specs.Words.{Said, Refused, StoppedBy}
 use Rattle.dali_transcripts.specs.World.{has_failed}
-use Rattle.dali_vault.specs.Vaulted.{Vaulted}
-use Rattle.dali_whole.specs.declared.whole.Core.{Core}
+use Rattle.dali_core.specs.Vault.Vaulted.{Vaulted}
+use Rattle.dali_core.specs.declared.whole.Core.{Core}
 use Rattle.dali_run.specs.declared.halt.Halt.{Halt}
 use Rattle.dali_run.specs.declared.halt.Halt.TheVariants.{StoreFault}
 use Rattle.dali_run.specs.declared.program.Program.{Program}

@@ -2,12 +2,12 @@
 use Rattle.std.proofs.Common.{◌≡◌, ◌<◌, ◌≤◌, ℕ, Bool, true, List, [], ◌∷◌, Result, Ok, Err, map, refl, sym, ◌∙◌, ap, subst, inl, inr, arith}
 use Rattle.std.specs.Prelude.{◌⊎◌, ◌||◌, flat_map, IfOk, IfErr, OnErr}
 use Rattle.std.specs.List.{list_any}
-use Rattle.dali_clients.specs.declared.command.Block.{Block}
-use Rattle.dali_clients.specs.Said.{Transcribed}
-use Rattle.dali_clients.specs.declared.line.Line.{Line}
-use Rattle.dali_clients.specs.Told.{said_of, told_of}
-use Rattle.dali_memstore.specs.Fuse.{failed_of}
-use Rattle.dali_memstore.specs.declared.fuse.Fuse.{Fuse}
+use Rattle.dali_transcripts.specs.declared.clients.command.Block.{Block}
+use Rattle.dali_transcripts.specs.Clients.Said.{Transcribed}
+use Rattle.dali_transcripts.specs.declared.clients.line.Line.{Line}
+use Rattle.dali_transcripts.specs.Clients.Told.{said_of, told_of}
+use Rattle.dali_fuse.specs.Fuse.{failed_of}
+use Rattle.dali_fuse.specs.declared.fuse.Fuse.{Fuse}
 use Rattle.dali_round.specs.declared.rounds.RoundEnd.{RoundEnd}
 use Rattle.dali_round.specs.declared.rounds.RoundEnd.TheVariants.{Done}
 use Rattle.dali_round.specs.Leads.{is_done, RoundGoes}
@@ -16,8 +16,8 @@ use Rattle.dali_script.specs.declared.names.Name.{Name}
 use Rattle.dali_store.specs.declared.store.Store.{Ghosts}
 use Rattle.dali_transcripts.specs.Words.{Act}
 use Rattle.dali_transcripts.specs.Transcripts.{Told}
-use Rattle.dali_whole.specs.declared.whole.Core.{Core}
-use Rattle.dali_whole.specs.Cores.{IsNoShorter}
+use Rattle.dali_core.specs.declared.whole.Core.{Core}
+use Rattle.dali_core.specs.Cores.{IsNoShorter}
 use Rattle.dali_run.specs.declared.halt.Halt.{Halt}
 use Rattle.dali_run.specs.declared.halt.Halt.TheVariants.{OutOfMemory}
 use Rattle.dali_run.specs.Fails.{FailsAlone, LostOver, Played}

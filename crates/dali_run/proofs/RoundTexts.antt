@@ -5,9 +5,9 @@ use Rattle.std.proofs.lemmas.List.{take_all}
 use Rattle.std.proofs.lemmas.List.Folds.{flat_map-map}
 use Rattle.dali_transcripts.specs.Words.{Said}
 use Rattle.dali_transcripts.specs.Transcripts.{Told, lines_of, text_up_to}
-use Rattle.dali_clients.specs.declared.line.Line.{Line}
-use Rattle.dali_clients.specs.Said.{Transcribed}
-use Rattle.dali_clients.specs.Told.{said_of}
+use Rattle.dali_transcripts.specs.declared.clients.line.Line.{Line}
+use Rattle.dali_transcripts.specs.Clients.Said.{Transcribed}
+use Rattle.dali_transcripts.specs.Clients.Told.{said_of}
 use Rattle.dali_report.specs.Lines.{alone_text, client_text, client_texts}
 use Rattle.dali_round.specs.Leads.{lines_in}
 use Rattle.dali_run.specs.Steps.{TellAll}

@@ -4,7 +4,7 @@ use Rattle.std.specs.Prelude.{◌⊎◌, ◌%◌, filter_map, if◌then◌else�
 use Rattle.std.specs.List.{list_all, range_with_len}
 use Rattle.std.proofs.lemmas.Bool.{cases_lt, cases_eq, eq-eqb}
 use Rattle.std.proofs.lemmas.List.{length-map, map-append}
-use Rattle.dali_clients.specs.Said.{Transcribed}
+use Rattle.dali_transcripts.specs.Clients.Said.{Transcribed}
 use Rattle.dali_generator.specs.Generated.{block, commands_of, draw, generated, key_of, transaction, value_of}
 use Rattle.dali_generator.specs.Left.{call_in, calls_at, transactions_of}
 use Rattle.dali_generator.proofs.Ranges.{at}

@@ -10,14 +10,14 @@ use Rattle.dali_region.specs.State.{RegionState}
 use Rattle.dali_att.specs.declared.state.State.{State}
 use Rattle.dali_history.specs.History.{IsHistory}
 use Rattle.dali_history.specs.Images.{HasRecords}
-use Rattle.dali_headline.proofs.NothingToFree.{recovered-base}
+use Rattle.dali_history.proofs.HeadlineLemmas.NothingToFree.{recovered-base}
 use Rattle.dali_store.specs.Store.{Files as Disk}
 use Rattle.dali_store.specs.declared.store.Store.{Ghosts}
-use Rattle.dali_system.specs.declared.causes.Cause.{Cause}
-use Rattle.dali_system.specs.State.{SystemState, row_of, state_of, state_in, hold_in, hold_of}
-use Rattle.dali_system.specs.Run.{first_of, RunsOn}
-use Rattle.dali_system.specs.Wholes.{latched_in}
-use Rattle.dali_facts.proofs.Told.{stop_tells}
+use Rattle.dali_runs.specs.declared.causes.Cause.{Cause}
+use Rattle.dali_runs.specs.State.{SystemState, row_of, state_of, state_in, hold_in, hold_of}
+use Rattle.dali_runs.specs.Run.{first_of, RunsOn}
+use Rattle.dali_runs.specs.Wholes.{latched_in}
+use Rattle.dali_runs.proofs.FactsLemmas.Told.{stop_tells}
 use Rattle.dali_crash.specs.Checkpoints.{Point}
 use Rattle.dali_crash.specs.Restarts.{HasRightBase}
 use Rattle.dali_crash.specs.Traces.{Start, bases_of, start_point}
@@ -26,9 +26,9 @@ use Rattle.dali_crash.proofs.Traces.{traced_course}
 use Rattle.dali_during.specs.During.{IsIdle}
 use Rattle.dali_during.proofs.Points.{point_course_keeps_the_base}
 use Rattle.dali_during.proofs.Shows.{shows_what_is_expected}
-use Rattle.dali_traces.specs.Disks.{AllSpell}
-use Rattle.dali_traces.specs.Bridges.{TracedTo}
-use Rattle.dali_vault.specs.Vaulted.{Vaulted}
+use Rattle.dali_crash.specs.Disks.Disks.{AllSpell}
+use Rattle.dali_crash.specs.Disks.Bridges.{TracedTo}
+use Rattle.dali_core.specs.Vault.Vaulted.{Vaulted}
 use Rattle.dali_round.specs.Leads.{BeginsAt}
 use Rattle.dali_run.specs.Shown.{IsServing, ShowsExpected}
 
@@ -58,7 +58,7 @@ module _ {V : Type 0} (g : Ghosts V) (reads_now : (s : V) → IfSome (g.told s) 
   right_here s B p v history (Some fs) tells now all = let one = all fs now in right_at s B p history one.0 one.2
 
   -- an engine that runs has met no failed audit
-  pub none_failed : (s : Start) (B : List (List Record)) (p : Point) (gs : List RegionState) (y : SystemState) (v : Vaulted V) → BeginsAt g.told g.may_leave g.faults s B p gs y v → IsServing y
+  pub none_failed : (s : Start) (B : List (List Record)) (p : Point) (gs : List RegionState) (y : SystemState) (v : Vaulted V) → BeginsAt g s B p gs y v → IsServing y
       → failing (last_epoch p.log) ≡ []
   none_failed s B p gs y v begins serves =
       let run = begins.stands.at.vault.run.run in

@@ -2,10 +2,10 @@
 use Rattle.std.proofs.Common.{◌≡◌, ℕ, Bool, true, List, [], ◌∷◌, Option, Some, None, map, refl, sym, subst, inl, inr}
 use Rattle.std.specs.Prelude.{IfSome}
 use Rattle.dali_run.proofs.Made.{format_begins, restart_begins}
-use Rattle.dali_clients.specs.Said.{Transcribed}
+use Rattle.dali_transcripts.specs.Clients.Said.{Transcribed}
 use Rattle.dali_crash.specs.Checkpoints.{Point}
 use Rattle.dali_crash.specs.Traces.{Start, start_point}
-use Rattle.dali_memstore.specs.declared.fuse.Fuse.{Fuse}
+use Rattle.dali_fuse.specs.declared.fuse.Fuse.{Fuse}
 use Rattle.dali_record.specs.declared.records.Record.{Record}
 use Rattle.dali_restart.specs.Formatted.{first_at, first_record}
 use Rattle.dali_restart.specs.Restarting.{BeginsRun}
@@ -16,11 +16,11 @@ use Rattle.dali_script.specs.declared.names.Name.{Name}
 use Rattle.dali_script.specs.declared.names.Name.TheVariants as names
 use Rattle.dali_store.specs.Store.{Files as Disk}
 use Rattle.dali_store.specs.declared.store.Store.{Ghosts}
-use Rattle.dali_system.specs.declared.causes.Cause.{Cause}
+use Rattle.dali_runs.specs.declared.causes.Cause.{Cause}
 use Rattle.dali_transcripts.specs.Words.{Act, Pokes, Audits, Checkpoints}
 use Rattle.dali_transcripts.specs.Transcripts.{Told as Blocks}
-use Rattle.dali_vault.specs.Vaulted.{with_store}
-use Rattle.dali_whole.specs.declared.whole.Core.{Core}
+use Rattle.dali_core.specs.Vault.Vaulted.{with_store}
+use Rattle.dali_core.specs.declared.whole.Core.{Core}
 use Rattle.dali_run.specs.declared.program.Program.{Program}
 use Rattle.dali_run.specs.declared.program.Program.TheVariants.{Up, Down}
 use Rattle.dali_run.specs.Masks.{FindsFiles, FindsIn}

@@ -1,13 +1,13 @@
 -- How making a database, or a restart, fails.
 use Rattle.std.proofs.Common.{◌≡◌, ◌⊎◌, ◌<◌, ◌≤◌, ℕ, Bool, List, [], ◌∷◌, Option, Some, None, Result, Ok, Err, sym, ap, subst, ◌∙◌, inl, inr, refl, arith}
 use Rattle.std.specs.Prelude.{IfErr, IfSome}
-use Rattle.dali_batch.specs.Batch.{IsUnformatted}
-use Rattle.dali_batch.specs.Formatting.{IsFormattedBy}
-use Rattle.dali_batch.specs.Reads.{OnlyReads}
+use Rattle.dali_log.specs.Batch.{IsUnformatted}
+use Rattle.dali_log.specs.Formatting.{IsFormattedBy}
+use Rattle.dali_log.specs.Reads.{OnlyReads}
 use Rattle.dali_restart.proofs.Once.{reads_once}
 use Rattle.dali_geometry.specs.Sizes.{Sizes}
-use Rattle.dali_memstore.specs.Fuse.{failed_of, passes_of}
-use Rattle.dali_memstore.specs.declared.fuse.Fuse.{Fuse}
+use Rattle.dali_fuse.specs.Fuse.{failed_of, passes_of}
+use Rattle.dali_fuse.specs.declared.fuse.Fuse.{Fuse}
 use Rattle.dali_restart.specs.declared.error.RestartError.{RestartError}
 use Rattle.dali_restart.specs.declared.error.RestartError.TheVariants as errors
 use Rattle.dali_restart.specs.Formatted.{first_body, IsLeft, IsNewCore, RunBegins}
@@ -15,8 +15,8 @@ use Rattle.dali_restart.specs.declared.restarting.Report.{Report}
 use Rattle.dali_restart.specs.Restarting.{outcome, BeginsRun, Gives, IsBadAnywhere, IsFresh, IsReadAs, LeavesAtRest, StaysIdle}
 use Rattle.dali_report.specs.declared.printed.Line.TheVariants as lines
 use Rattle.dali_report.specs.Lines.{texts}
-use Rattle.dali_whole.specs.declared.whole.Core.{Core}
-use Rattle.dali_whole.specs.Cores.{IsWholeCore}
+use Rattle.dali_core.specs.declared.whole.Core.{Core}
+use Rattle.dali_core.specs.Cores.{IsWholeCore}
 use Rattle.dali_script.specs.declared.commands.Command.TheVariants.{Size, Restart}
 use Rattle.dali_store.specs.declared.store.FileName.{FileName}
 use Rattle.dali_store.specs.Faults.{Rose}

@@ -4,8 +4,8 @@ use Rattle.std.specs.Prelude.{◌⊎◌, ◌↔◌, ◌==◌, ◌&&◌, Contains
 use Rattle.std.specs.List.{AllByRecursion, list_all, list_any}
 use Rattle.std.proofs.lemmas.List.{append-nil}
 use Rattle.std.proofs.lemmas.Bool.{eqb-true, ltb-true, and_parts, or_parts}
-use Rattle.dali_clients.specs.Said.{Transcribed}
-use Rattle.dali_memstore.specs.declared.fuse.Fuse.{Fuse}
+use Rattle.dali_transcripts.specs.Clients.Said.{Transcribed}
+use Rattle.dali_fuse.specs.declared.fuse.Fuse.{Fuse}
 use Rattle.dali_geometry.specs.Places.{regions}
 use Rattle.dali_geometry.specs.Sizes.{Sizes}
 use Rattle.dali_record.specs.declared.records.Record.{Record}
@@ -18,9 +18,9 @@ use Rattle.dali_report.specs.Lines.{alone_text}
 use Rattle.dali_round.specs.Leads.{lines_in}
 use Rattle.dali_store.specs.declared.store.Store.{Ghosts}
 use Rattle.dali_history.proofs.Prefixes.{rules_front}
-use Rattle.dali_system.specs.Run.{LogRun}
-use Rattle.dali_system.specs.State.{CoreState}
-use Rattle.dali_system.specs.Steps.{audit_record}
+use Rattle.dali_runs.specs.Run.{LogRun}
+use Rattle.dali_runs.specs.State.{CoreState}
+use Rattle.dali_runs.specs.Steps.{audit_record}
 use Rattle.dali_transcripts.proofs.Owned.{own_ascend}
 use Rattle.dali_transcripts.specs.Laws.{IsIn}
 use Rattle.dali_transcripts.specs.Moves.{Receipt, Place, Outside, Spot, Move, Begins, BeginsAgain, IsRefusedBegin, Ends, StaysOpen, Pokes, PokesNothing, Audits as AuditsOnce, IsRefusedAudit, Checkpoints, FailsCheckpoint, IsRefusedCheckpoint, from, said, own, to, start, audit_own, failure_own, spanned}
@@ -28,7 +28,7 @@ use Rattle.dali_transcripts.specs.Rounds.{HoldsTogether}
 use Rattle.dali_transcripts.specs.Transcripts.{EachTells, IsPath, IsTranscript, count_with, deeds_of, is_among, own_by, owned, said_by}
 use Rattle.dali_transcripts.specs.Words.{Act, Audits, Checkpoints as CheckpointAct, Said, AuditSaid, CheckpointSaid, CheckpointFailed, Refused}
 use Rattle.dali_transcripts.specs.World.{Deed, EndsCheckpoint, Happening, Logs, MovesAnchor, Strays, World, log_of, stray_after}
-use Rattle.dali_whole.specs.declared.whole.Core.{Core}
+use Rattle.dali_core.specs.declared.whole.Core.{Core}
 use Rattle.dali_run.specs.Masks.{list_in}
 use Rattle.dali_run.specs.Steps.{ActsAlone}
 use Rattle.dali_run.specs.Strays.{LoneAuditTells}

@@ -2,9 +2,9 @@
 use Rattle.std.proofs.Common.{◌≡◌, ◌≤◌, ◌-◌, ℕ, zero, suc, Bool, true, false, List, [], ◌∷◌, ◌++◌, length, map, take, Option, Some, None, refl, sym, ◌∙◌, ap, subst, arith, inl, inr, append-nil, nat_cmp}
 use Rattle.std.specs.FinMap.{get-empty}
 use Rattle.std.specs.Prelude.{IfSome, is_some, slice_get}
-use Rattle.dali_again.proofs.Found.{crash_is_found}
-use Rattle.dali_again.proofs.Places.{start_has_place}
-use Rattle.dali_again.specs.Found.{FindsIt}
+use Rattle.dali_resume.proofs.InterruptedLemmas.Found.{crash_is_found}
+use Rattle.dali_resume.proofs.InterruptedLemmas.Places.{start_has_place}
+use Rattle.dali_resume.specs.Interrupted.Found.{FindsIt}
 use Rattle.dali_arguments.specs.Laws.{IsInRange}
 use Rattle.dali_arguments.specs.Meaning.{meaning}
 use Rattle.dali_arguments.specs.declared.task.Task.{Task}
@@ -12,7 +12,7 @@ use Rattle.dali_arguments.specs.declared.task.Task.TheVariants.{Run, Generate, D
 use Rattle.dali_arguments.proofs.InRange.{in_range}
 use Rattle.dali_run.proofs.Made.{restart_begins}
 use Rattle.dali_run.proofs.Shown.{right_at}
-use Rattle.dali_again.proofs.Stages.{same_sizes}
+use Rattle.dali_resume.proofs.InterruptedLemmas.Stages.{same_sizes}
 use Rattle.dali_crash.specs.Checkpoints.{Point}
 use Rattle.dali_crash.specs.CrashLogs.{IsUnpoked, cut_to}
 use Rattle.dali_crash.specs.Restarts.{HasRightBase}
@@ -27,8 +27,8 @@ use Rattle.dali_geometry.specs.Sizes.{Sizes}
 use Rattle.dali_history.specs.History.{IsHistory}
 use Rattle.dali_listing.specs.declared.Listed.{Listed}
 use Rattle.dali_listing.specs.Listing.{IsListing, in_memory}
-use Rattle.dali_memstore.specs.Fuse.{inner}
-use Rattle.dali_memstore.specs.declared.fuse.Fuse.{Fuse}
+use Rattle.dali_fuse.specs.Fuse.{inner}
+use Rattle.dali_fuse.specs.declared.fuse.Fuse.{Fuse}
 use Rattle.dali_record.specs.declared.records.Call.{Call}
 use Rattle.dali_record.specs.declared.records.Record.{Record}
 use Rattle.dali_record.specs.Epochs.{Cut, Epoch, last_epoch}
@@ -46,18 +46,18 @@ use Rattle.dali_served.proofs.Summing.{summaries_follow}
 use Rattle.dali_store.specs.Store.{Files as Disk}
 use Rattle.dali_store.specs.declared.store.Store.{Ghosts}
 use Rattle.dali_streams.specs.Streams.{Appends}
-use Rattle.dali_system.specs.Crashes.{NoneEscapes}
-use Rattle.dali_system.specs.Run.{Bases, RunsOn, log_in}
+use Rattle.dali_runs.specs.Crashes.{NoneEscapes}
+use Rattle.dali_runs.specs.Run.{Bases, RunsOn, log_in}
 use Rattle.dali_region.specs.State.{RegionState}
-use Rattle.dali_system.specs.State.{CoreState, SystemState, log_after, row_of, stable}
-use Rattle.dali_system.specs.declared.causes.Cause.{Cause}
-use Rattle.dali_system.specs.declared.causes.Cause.TheVariants.{Damage, Store}
-use Rattle.dali_traces.specs.Bridges.{TracedTo}
-use Rattle.dali_traces.specs.Disks.{AllSpell, Spells}
+use Rattle.dali_runs.specs.State.{CoreState, SystemState, log_after, row_of, stable}
+use Rattle.dali_runs.specs.declared.causes.Cause.{Cause}
+use Rattle.dali_runs.specs.declared.causes.Cause.TheVariants.{Damage, Store}
+use Rattle.dali_crash.specs.Disks.Bridges.{TracedTo}
+use Rattle.dali_crash.specs.Disks.Disks.{AllSpell, Spells}
 use Rattle.dali_transcripts.specs.Transcripts.{Told as Blocks}
 use Rattle.dali_transcripts.specs.World.{log_of}
-use Rattle.dali_clients.specs.Said.{Transcribed}
-use Rattle.dali_whole.specs.declared.whole.Core.{Core}
+use Rattle.dali_transcripts.specs.Clients.Said.{Transcribed}
+use Rattle.dali_core.specs.declared.whole.Core.{Core}
 use Rattle.dali_run.specs.declared.halt.Halt.{Halt}
 use Rattle.dali_run.specs.declared.program.Program.{Program}
 use Rattle.dali_run.specs.declared.program.Program.TheVariants.{Up, Down}

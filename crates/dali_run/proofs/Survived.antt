@@ -7,11 +7,11 @@ use Rattle.dali_arguments.specs.Meaning.{meaning}
 use Rattle.dali_arguments.specs.declared.task.Task.{Task}
 use Rattle.dali_arguments.specs.declared.task.Task.TheVariants.{Run, Generate, Dump, Show, Status as Standing, Load}
 use Rattle.dali_arguments.proofs.InRange.{in_range}
-use Rattle.dali_batch.specs.Reads.{OnlyReads}
+use Rattle.dali_log.specs.Reads.{OnlyReads}
 use Rattle.dali_generator.specs.Generated.{AreWithin, generated, index_regions, heap_regions}
 use Rattle.dali_generator.proofs.Right.{right_round, right_sizes}
-use Rattle.dali_memstore.specs.Fuse.{inner}
-use Rattle.dali_memstore.specs.declared.fuse.Fuse.{Fuse}
+use Rattle.dali_fuse.specs.Fuse.{inner}
+use Rattle.dali_fuse.specs.declared.fuse.Fuse.{Fuse}
 use Rattle.dali_record.specs.declared.records.Record.{Record}
 use Rattle.dali_restart.specs.Formatted.{first_record}
 use Rattle.dali_script.specs.declared.commands.Command.{Command}
@@ -19,7 +19,7 @@ use Rattle.dali_script.specs.declared.commands.Command.TheVariants.{Size, Round,
 use Rattle.dali_store.specs.Store.{Files as Disk}
 use Rattle.dali_store.specs.declared.store.FileName.{FileName}
 use Rattle.dali_store.specs.declared.store.Store.{Ghosts}
-use Rattle.dali_whole.specs.declared.whole.Core.{Core}
+use Rattle.dali_core.specs.declared.whole.Core.{Core}
 use Rattle.dali_run.specs.declared.halt.Halt.{Halt}
 use Rattle.dali_run.specs.declared.halt.Halt.TheVariants as halts
 use Rattle.dali_run.specs.declared.program.Program.{Program}

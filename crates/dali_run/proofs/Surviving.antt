@@ -3,27 +3,27 @@ use Rattle.std.proofs.Common.{◌≡◌, ◌≤◌, ◌+◌, ℕ, zero, suc, Boo
 use Rattle.std.specs.Prelude.{◌⊎◌, ◌&&◌, IfSome, flat_map, is_some, nat_le, slice_get}
 use Rattle.std.proofs.lemmas.Bool.{le-leb}
 use Rattle.std.proofs.lemmas.List.{append-nil, take_all}
-use Rattle.dali_batch.specs.Batch.{IsUnformatted}
-use Rattle.dali_batch.specs.Formatting.{FormatLeaves, HasFirst, IsFormattedBy}
-use Rattle.dali_batch.specs.Log.{BadAt}
-use Rattle.dali_batch.specs.Reads.{OnlyReads}
-use Rattle.dali_batch.proofs.Walks.{readings}
+use Rattle.dali_log.specs.Batch.{IsUnformatted}
+use Rattle.dali_log.specs.Formatting.{FormatLeaves, HasFirst, IsFormattedBy}
+use Rattle.dali_log.specs.Log.{BadAt}
+use Rattle.dali_log.specs.Reads.{OnlyReads}
+use Rattle.dali_log.proofs.Walks.{readings}
 use Rattle.dali_crash.specs.Checkpoints.{Does, Head, Point}
 use Rattle.dali_crash.specs.StoreRuns.{StoreRun}
 use Rattle.dali_crash.specs.Traces.{Start, bases_of, start_point}
 use Rattle.dali_crash.proofs.Courses.{format_is_history}
 use Rattle.dali_crash.proofs.Growth.{course_grows}
 use Rattle.dali_crash.proofs.Traces.{every_trace_is_right, trace_prefix}
-use Rattle.dali_again.proofs.Found.{crash_is_found, right_is_found}
-use Rattle.dali_again.proofs.Places.{start_has_place}
+use Rattle.dali_resume.proofs.InterruptedLemmas.Found.{crash_is_found, right_is_found}
+use Rattle.dali_resume.proofs.InterruptedLemmas.Places.{start_has_place}
 use Rattle.dali_run.proofs.Made.{format_begins, restart_begins}
 use Rattle.dali_checkpoint.proofs.Calls.{course_join}
-use Rattle.dali_ends.specs.Stands.{StandsAt}
+use Rattle.dali_transactions.specs.Stands.{StandsAt}
 use Rattle.dali_geometry.specs.Sizes.{AreInRange, Sizes}
 use Rattle.dali_history.specs.History.{IsHistory}
 use Rattle.dali_history.specs.Recovered.{recovered}
-use Rattle.dali_memstore.specs.Fuse.{inner, failed_of}
-use Rattle.dali_memstore.specs.declared.fuse.Fuse.{Fuse}
+use Rattle.dali_fuse.specs.Fuse.{inner, failed_of}
+use Rattle.dali_fuse.specs.declared.fuse.Fuse.{Fuse}
 use Rattle.dali_record.specs.declared.records.Record.{Record}
 use Rattle.dali_record.specs.declared.records.Record.TheVariants.{Format}
 use Rattle.dali_record.specs.Epochs.{Epoch, last_epoch}
@@ -46,27 +46,27 @@ use Rattle.dali_store.specs.declared.store.FileName.{FileName}
 use Rattle.dali_store.specs.Faults.{Rose}
 use Rattle.dali_store.specs.Store.{Files as Disk, LeavesOnly, Only}
 use Rattle.dali_store.specs.declared.store.Store.{Ghosts}
-use Rattle.dali_system.specs.declared.causes.Cause.{Cause}
-use Rattle.dali_system.specs.Courses.{ReadFails}
-use Rattle.dali_system.specs.Crashes.{NoneEscapes}
-use Rattle.dali_system.specs.Images.{Told}
-use Rattle.dali_system.specs.Run.{log_in, no_image}
-use Rattle.dali_system.specs.State.{CoreState, SystemState, VaultState, stable}
-use Rattle.dali_system.proofs.Loads.{format_rests}
-use Rattle.dali_traces.specs.Bridges.{IsNewVault, LeavesRightAt, TracedTo, first_start}
-use Rattle.dali_traces.proofs.Bridges.{format_starts}
-use Rattle.dali_traces.specs.Disks.{AllSpell, Spells, head_of}
-use Rattle.dali_traces.specs.NewFiles.{ReadsCopies}
+use Rattle.dali_runs.specs.declared.causes.Cause.{Cause}
+use Rattle.dali_runs.specs.Courses.{ReadFails}
+use Rattle.dali_runs.specs.Crashes.{NoneEscapes}
+use Rattle.dali_runs.specs.Images.{Told}
+use Rattle.dali_runs.specs.Run.{log_in, no_image}
+use Rattle.dali_runs.specs.State.{CoreState, SystemState, VaultState, stable}
+use Rattle.dali_runs.proofs.Loads.{format_rests}
+use Rattle.dali_crash.specs.Disks.Bridges.{IsNewVault, LeavesRightAt, TracedTo, first_start}
+use Rattle.dali_crash.proofs.DisksLemmas.Bridges.{format_starts}
+use Rattle.dali_crash.specs.Disks.Disks.{AllSpell, Spells, head_of}
+use Rattle.dali_crash.specs.Disks.NewFiles.{ReadsCopies}
 use Rattle.dali_script.specs.declared.commands.Command.{Command}
 use Rattle.dali_script.specs.declared.commands.Command.TheVariants.{Size, Open, Round, Poke, Audit, Checkpoint, Cleanup, Crash, Restart, Show, Verify, Next, Fuse as SetFuse}
 use Rattle.dali_script.specs.declared.names.Name.{Name}
 use Rattle.dali_script.specs.declared.names.Name.TheVariants as names
 use Rattle.dali_transcripts.specs.Words.{Act, Pokes, Audits, Checkpoints}
 use Rattle.dali_transcripts.specs.Transcripts.{Told as Blocks}
-use Rattle.dali_clients.specs.Said.{Transcribed}
-use Rattle.dali_vault.specs.Vaulted.{Vaulted, with_store}
-use Rattle.dali_whole.specs.declared.whole.Core.{Core}
-use Rattle.dali_whole.specs.Cores.{HoldsPlaces, IsNoShorter, NoShorter}
+use Rattle.dali_transcripts.specs.Clients.Said.{Transcribed}
+use Rattle.dali_core.specs.Vault.Vaulted.{Vaulted, with_store}
+use Rattle.dali_core.specs.declared.whole.Core.{Core}
+use Rattle.dali_core.specs.Cores.{HoldsPlaces, IsNoShorter, NoShorter}
 use Rattle.dali_run.specs.declared.halt.Halt.{Halt}
 use Rattle.dali_run.specs.declared.halt.Halt.TheVariants as halts
 use Rattle.dali_run.specs.declared.program.Program.{Program}

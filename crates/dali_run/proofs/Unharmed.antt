@@ -5,20 +5,20 @@ use Rattle.dali_crash.specs.Checkpoints.{Point, moment_of}
 use Rattle.dali_crash.specs.Traces.{Start, bases_of, start_point}
 use Rattle.dali_crash.proofs.Traces.{moment_halts, trace_runs}
 use Rattle.dali_crash.proofs.Unpoked.{none_escapes}
-use Rattle.dali_ends.specs.Stands.{StandsAt}
-use Rattle.dali_memstore.specs.declared.fuse.Fuse.{Fuse}
+use Rattle.dali_transactions.specs.Stands.{StandsAt}
+use Rattle.dali_fuse.specs.declared.fuse.Fuse.{Fuse}
 use Rattle.dali_record.specs.declared.records.Record.{Record}
 use Rattle.dali_record.specs.Epochs.{Epoch, last_epoch}
 use Rattle.dali_record.specs.Files.{Files}
 use Rattle.dali_region.specs.State.{RegionState}
 use Rattle.dali_store.specs.declared.store.Store.{Ghosts}
-use Rattle.dali_system.specs.Crashes.{NoneEscapes}
-use Rattle.dali_system.specs.Run.{log_in, only}
-use Rattle.dali_system.specs.State.{CoreState}
-use Rattle.dali_traces.specs.Bridges.{ComesTo, TracedTo}
-use Rattle.dali_traces.specs.Disks.{AllSpell}
-use Rattle.dali_traces.proofs.Once.{spells_one}
-use Rattle.dali_whole.specs.declared.whole.Core.{Core}
+use Rattle.dali_runs.specs.Crashes.{NoneEscapes}
+use Rattle.dali_runs.specs.Run.{log_in, only}
+use Rattle.dali_runs.specs.State.{CoreState}
+use Rattle.dali_crash.specs.Disks.Bridges.{ComesTo, TracedTo}
+use Rattle.dali_crash.specs.Disks.Disks.{AllSpell}
+use Rattle.dali_crash.proofs.DisksLemmas.Once.{spells_one}
+use Rattle.dali_core.specs.declared.whole.Core.{Core}
 use Rattle.dali_run.specs.Honest.{CoresAreHonest, IsHonestWithin, NonePoked, RoundsAreHonest}
 use Rattle.dali_run.specs.Program.{told_in, leaves_in, faults_in}
 use Rattle.dali_run.specs.Survives.{NoneEscapesAt}

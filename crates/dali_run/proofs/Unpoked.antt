@@ -8,14 +8,14 @@ use Rattle.dali_run.proofs.Shown.{shows_expected}
 use Rattle.dali_run.proofs.Verifying.{verifies}
 use Rattle.dali_clean.specs.Cleaned.{IsDead}
 use Rattle.dali_crash.specs.CrashLogs.{IsUnpoked}
-use Rattle.dali_memstore.specs.Fuse.{inner}
-use Rattle.dali_memstore.specs.declared.fuse.Fuse.{Fuse}
+use Rattle.dali_fuse.specs.Fuse.{inner}
+use Rattle.dali_fuse.specs.declared.fuse.Fuse.{Fuse}
 use Rattle.dali_record.specs.declared.records.Record.{Record}
 use Rattle.dali_store.specs.Store.{Files as Disk}
 use Rattle.dali_store.specs.declared.store.Store.{Ghosts}
-use Rattle.dali_system.specs.State.{SystemState, TxnRow, row_of, state_in}
+use Rattle.dali_runs.specs.State.{SystemState, TxnRow, row_of, state_in}
 use Rattle.dali_transcripts.specs.World.{is_dead_in}
-use Rattle.dali_whole.specs.declared.whole.Core.{Core}
+use Rattle.dali_core.specs.declared.whole.Core.{Core}
 use Rattle.dali_run.specs.Program.{fused}
 use Rattle.dali_run.specs.Survives.{IsPointOf}
 use Rattle.dali_run.specs.Unpoked.{AreUnpoked, HasServed, UnpokedShows, UnpokedVerifies}

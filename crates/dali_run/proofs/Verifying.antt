@@ -12,20 +12,20 @@ use Rattle.dali_record.specs.Legal.{IsLegal, IsLegalFor}
 use Rattle.dali_record.specs.Spelling.{CanBeSpelled}
 use Rattle.dali_geometry.specs.Sizes.{Sizes}
 use Rattle.dali_history.specs.Acknowledged.{IsDeletedByChain}
-use Rattle.dali_headline.proofs.Undamaged.{undamaged_deleted}
+use Rattle.dali_history.proofs.HeadlineLemmas.Undamaged.{undamaged_deleted}
 use Rattle.dali_store.specs.Store.{Files as Disk}
 use Rattle.dali_store.specs.declared.store.Store.{Ghosts}
-use Rattle.dali_batch.specs.Log.{AreSpelled, LogOf, records_in}
-use Rattle.dali_batch.proofs.Unique.{same_records, one_log, log_is_formatted}
-use Rattle.dali_system.specs.State.{SystemState, log_after}
-use Rattle.dali_system.specs.Run.{RunsOn, log_in}
+use Rattle.dali_log.specs.Log.{AreSpelled, LogOf, records_in}
+use Rattle.dali_log.proofs.Unique.{same_records, one_log, log_is_formatted}
+use Rattle.dali_runs.specs.State.{SystemState, log_after}
+use Rattle.dali_runs.specs.Run.{RunsOn, log_in}
 use Rattle.dali_crash.specs.Traces.{bases_of}
 use Rattle.dali_during.specs.Reported.{named_deleted, reported}
 use Rattle.dali_during.proofs.Reported.{reports_all_deleted}
 use Rattle.dali_during.proofs.Runs.{sizes_in_run}
-use Rattle.dali_traces.specs.Disks.{AllSpell}
-use Rattle.dali_traces.specs.Bridges.{TracedTo}
-use Rattle.dali_traces.proofs.Bridges.{runs_at}
+use Rattle.dali_crash.specs.Disks.Disks.{AllSpell}
+use Rattle.dali_crash.specs.Disks.Bridges.{TracedTo}
+use Rattle.dali_crash.proofs.DisksLemmas.Bridges.{runs_at}
 use Rattle.dali_listing.specs.Listing.{in_memory}
 use Rattle.dali_verify.specs.Verified.{IsInFile, IsWholeLog, IsVerified, deleted_in, told_deleted}
 use Rattle.dali_run.specs.Shown.{HoldsExpected, VerifiesAlways}

@@ -13,9 +13,9 @@
 use Rattle.std.specs.Prelude.{◌≡◌, ◌⊎◌, ◌<◌, ◌≤◌, ℕ, ◌+◌, ◌^◌, Bool, List, ◌∷◌, Option, Some, IfSome, length}
 use Rattle.std.proofs.Common.{inl, inr}
 use Rattle.dali_arguments.specs.declared.task.Task.TheVariants.{Run, Generate}
-use Rattle.dali_batch.specs.Batch.{IsUnformatted}
-use Rattle.dali_memstore.specs.Fuse.{inner}
-use Rattle.dali_memstore.specs.declared.fuse.Fuse.{Fuse}
+use Rattle.dali_log.specs.Batch.{IsUnformatted}
+use Rattle.dali_fuse.specs.Fuse.{inner}
+use Rattle.dali_fuse.specs.declared.fuse.Fuse.{Fuse}
 use Rattle.dali_record.specs.declared.records.Record.{Record}
 use Rattle.dali_script.specs.declared.commands.Command.{Command}
 use Rattle.dali_script.specs.declared.commands.Command.TheVariants.{Size, Open}

@@ -2,9 +2,9 @@
 --     Dumps old text new           the store was only read, its count stayed, and this is the text of the records of its log
 --     NotDumped halt old new       why it wasn't: the log is bad at a place, or has no first gate; a call of the store failed; or no memory
 use Rattle.std.specs.Prelude.{◌≡◌, ℕ, List, IfSome}
-use Rattle.dali_batch.specs.Batch.{IsUnformatted}
-use Rattle.dali_batch.specs.Log.{BadAt}
-use Rattle.dali_batch.specs.Reads.{OnlyReads}
+use Rattle.dali_log.specs.Batch.{IsUnformatted}
+use Rattle.dali_log.specs.Log.{BadAt}
+use Rattle.dali_log.specs.Reads.{OnlyReads}
 use Rattle.dali_dump.specs.Lines.{IsDump}
 use Rattle.dali_store.specs.Faults.{Rose}
 use Rattle.dali_store.specs.declared.store.FileName.TheVariants.{Log}

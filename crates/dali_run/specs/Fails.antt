@@ -14,12 +14,12 @@
 --     Fails halt command old f    a command that ends the run with this
 use Rattle.std.specs.Prelude.{◌≡◌, ◌⊎◌, ◌<◌, ◌≤◌, ℕ, Bool, true, List, IfSome, map}
 use Rattle.std.specs.List.{list_any}
-use Rattle.dali_batch.specs.Batch.{IsUnformatted}
-use Rattle.dali_batch.specs.Log.{BadAt}
-use Rattle.dali_batch.specs.Reads.{OnlyReads}
-use Rattle.dali_clients.specs.Said.{Transcribed}
-use Rattle.dali_memstore.specs.Fuse.{inner, failed_of}
-use Rattle.dali_memstore.specs.declared.fuse.Fuse.{Fuse}
+use Rattle.dali_log.specs.Batch.{IsUnformatted}
+use Rattle.dali_log.specs.Log.{BadAt}
+use Rattle.dali_log.specs.Reads.{OnlyReads}
+use Rattle.dali_transcripts.specs.Clients.Said.{Transcribed}
+use Rattle.dali_fuse.specs.Fuse.{inner, failed_of}
+use Rattle.dali_fuse.specs.declared.fuse.Fuse.{Fuse}
 use Rattle.dali_restart.specs.declared.error.RestartError.{RestartError}
 use Rattle.dali_restart.specs.declared.error.RestartError.TheVariants.{Fault}
 use Rattle.dali_restart.specs.Restarting.{IsBadAnywhere}
@@ -32,8 +32,8 @@ use Rattle.dali_store.specs.declared.store.FileName.TheVariants.{Log}
 use Rattle.dali_store.specs.declared.store.Store.{Ghosts}
 use Rattle.dali_transcripts.specs.Words.{Act, Pokes, Audits, Checkpoints}
 use Rattle.dali_transcripts.specs.Transcripts.{Told}
-use Rattle.dali_whole.specs.declared.whole.Core.{Core}
-use Rattle.dali_whole.specs.Cores.{IsNoShorter}
+use Rattle.dali_core.specs.declared.whole.Core.{Core}
+use Rattle.dali_core.specs.Cores.{IsNoShorter}
 use Rattle.dali_run.specs.declared.halt.Halt.{Halt}
 use Rattle.dali_run.specs.declared.halt.Halt.TheVariants.{StoreFault, BadStore, Unformatted, Formatted, OutOfMemory}
 use Rattle.dali_run.specs.declared.program.Program.{Program}

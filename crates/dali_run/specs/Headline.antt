@@ -32,13 +32,13 @@ use Rattle.std.proofs.Common.{inl, inr}
 use Rattle.dali_arguments.specs.Meaning.{meaning}
 use Rattle.dali_arguments.specs.declared.task.Task.{Task}
 use Rattle.dali_arguments.specs.declared.task.Task.TheVariants.{Run, Generate}
-use Rattle.dali_batch.specs.Batch.{IsUnformatted}
+use Rattle.dali_log.specs.Batch.{IsUnformatted}
 use Rattle.dali_history.specs.Acknowledged.{IsDeletedByChain}
 use Rattle.dali_history.specs.History.{HasExpected}
 use Rattle.dali_history.specs.Promise.{RestartIsRight}
 use Rattle.dali_history.specs.Serial.{survivors}
-use Rattle.dali_memstore.specs.Fuse.{inner}
-use Rattle.dali_memstore.specs.declared.fuse.Fuse.{Fuse}
+use Rattle.dali_fuse.specs.Fuse.{inner}
+use Rattle.dali_fuse.specs.declared.fuse.Fuse.{Fuse}
 use Rattle.dali_record.specs.declared.records.Record.{Record}
 use Rattle.dali_record.specs.Damage.{deleted_list, rolled_list}
 use Rattle.dali_record.specs.Epochs.{last_epoch, recovered_epoch}
@@ -53,13 +53,13 @@ use Rattle.dali_script.specs.declared.commands.Command.{Command}
 use Rattle.dali_script.specs.declared.commands.Command.TheVariants.{Size, Open, Round, Poke, Audit, Checkpoint, Restart}
 use Rattle.dali_store.specs.Store.{Files as Disk}
 use Rattle.dali_store.specs.declared.store.Store.{Ghosts}
-use Rattle.dali_system.specs.Crashes.{NoneEscapes}
-use Rattle.dali_system.specs.Run.{log_in}
-use Rattle.dali_traces.specs.Disks.{Spells}
+use Rattle.dali_runs.specs.Crashes.{NoneEscapes}
+use Rattle.dali_runs.specs.Run.{log_in}
+use Rattle.dali_crash.specs.Disks.Disks.{Spells}
 use Rattle.dali_transcripts.specs.Transcripts.{Told}
 use Rattle.dali_transcripts.specs.Words.{Act, Said, Begun, CommitOk, Pokes, Audits, Checkpoints}
 use Rattle.dali_transcripts.specs.Worked.{lines_1, lines_2, log as worked_log}
-use Rattle.dali_whole.specs.declared.whole.Core.{Core}
+use Rattle.dali_core.specs.declared.whole.Core.{Core}
 use Rattle.dali_run.specs.declared.halt.Halt.{Halt}
 use Rattle.dali_run.specs.declared.halt.Halt.TheVariants as halts
 use Rattle.dali_run.specs.declared.program.Program.{Program}

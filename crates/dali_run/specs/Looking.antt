@@ -13,7 +13,7 @@ use Rattle.dali_geometry.specs.Places.{regions}
 use Rattle.dali_store.specs.Faults.{Rose}
 use Rattle.dali_store.specs.Store.{name_of}
 use Rattle.dali_store.specs.declared.store.Store.{Ghosts}
-use Rattle.dali_batch.specs.Batch.{IsUnformatted}
+use Rattle.dali_log.specs.Batch.{IsUnformatted}
 use Rattle.dali_listing.specs.Listing.{in_memory, IsListing}
 use Rattle.dali_listing.specs.declared.Listed.{Listed}
 use Rattle.dali_report.specs.Lines.{text_of, texts}

@@ -19,9 +19,9 @@
 use Rattle.std.specs.Prelude.{◌≡◌, ◌≢◌, ◌⊎◌, ◌↔◌, ◌==◌, ◌<◌, ℕ, Bool, true, false, List, [], ◌∷◌, ◌++◌, if◌then◌else◌, Option, Some, None, Contains, bit_xor, filter_map, fold, length, map, slice_get, take}
 use Rattle.std.proofs.Common.{inl, inr}
 use Rattle.dali_arguments.specs.declared.task.Task.TheVariants.{Run}
-use Rattle.dali_again.specs.Found.{FindsIt}
-use Rattle.dali_memstore.specs.Fuse.{inner}
-use Rattle.dali_memstore.specs.declared.fuse.Fuse.{Fuse}
+use Rattle.dali_resume.specs.Interrupted.Found.{FindsIt}
+use Rattle.dali_fuse.specs.Fuse.{inner}
+use Rattle.dali_fuse.specs.declared.fuse.Fuse.{Fuse}
 use Rattle.dali_record.specs.declared.records.Record.{Record}
 use Rattle.dali_record.specs.Files.{Files as Spelled}
 use Rattle.dali_record.specs.Spelling.{ascends}
@@ -36,10 +36,10 @@ use Rattle.dali_script.specs.declared.names.Name.{Name}
 use Rattle.dali_script.specs.declared.names.Name.TheVariants as names
 use Rattle.dali_store.specs.Store.{Files}
 use Rattle.dali_store.specs.declared.store.Store.{Ghosts}
-use Rattle.dali_traces.specs.Disks.{Spells}
+use Rattle.dali_crash.specs.Disks.Disks.{Spells}
 use Rattle.dali_transcripts.specs.Transcripts.{Told}
 use Rattle.dali_transcripts.specs.Words.{Act, Pokes, Audits, Checkpoints, Said, PokeOk, PokeOutOfRange, AuditSaid, CheckpointSaid, CheckpointFailed}
-use Rattle.dali_whole.specs.declared.whole.Core.{Core}
+use Rattle.dali_core.specs.declared.whole.Core.{Core}
 use Rattle.dali_run.specs.declared.halt.Halt.{Halt}
 use Rattle.dali_run.specs.declared.halt.Halt.TheVariants as halts
 use Rattle.dali_run.specs.declared.program.Program.{Program}

@@ -8,12 +8,12 @@
 --     PlacesIn g c            where a region of the core is clean for a side, the image file of that side has its place
 --     HoldsImages g p         so it is of the core of a program that is up
 use Rattle.std.specs.Prelude.{◌≡◌, ℕ, ◌+◌, Option, None, IfSome}
-use Rattle.dali_memstore.specs.Fuse.{inner, passes_of, failed_of}
-use Rattle.dali_memstore.specs.declared.fuse.Fuse.{Fuse}
+use Rattle.dali_fuse.specs.Fuse.{inner, passes_of, failed_of}
+use Rattle.dali_fuse.specs.declared.fuse.Fuse.{Fuse}
 use Rattle.dali_store.specs.Store.{Files}
 use Rattle.dali_store.specs.declared.store.Store.{Ghosts}
-use Rattle.dali_whole.specs.declared.whole.Core.{Core}
-use Rattle.dali_whole.specs.Cores.{HoldsPlaces}
+use Rattle.dali_core.specs.declared.whole.Core.{Core}
+use Rattle.dali_core.specs.Cores.{HoldsPlaces}
 use Rattle.dali_run.specs.declared.program.Program.{Program}
 use Rattle.dali_run.specs.declared.program.Program.TheVariants.{Up, Down}
 

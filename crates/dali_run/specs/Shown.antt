@@ -10,11 +10,11 @@ use Rattle.dali_history.specs.Serial.{Map, expected}
 use Rattle.dali_history.specs.Images.{HasRecords}
 use Rattle.dali_history.specs.History.{IsHistory}
 use Rattle.dali_store.specs.declared.store.Store.{Ghosts}
-use Rattle.dali_system.specs.State.{SystemState, row_of}
+use Rattle.dali_runs.specs.State.{SystemState, row_of}
 use Rattle.dali_crash.specs.Checkpoints.{Point}
 use Rattle.dali_crash.specs.CrashLogs.{IsUnpoked}
 use Rattle.dali_crash.specs.Traces.{Start}
-use Rattle.dali_vault.specs.Vaulted.{Vaulted}
+use Rattle.dali_core.specs.Vault.Vaulted.{Vaulted}
 use Rattle.dali_listing.specs.Listing.{in_memory}
 use Rattle.dali_verify.specs.Verified.{IsWholeLog, IsVerified}
 use Rattle.dali_round.specs.Leads.{BeginsAt}
@@ -32,11 +32,11 @@ module _ {V : Type 0} (g : Ghosts V) where
   abbrev pub ShowsExpected : Type 0
   ShowsExpected =
       (s : Start) (B : List (List Record)) (p : Point) (gs : List RegionState) (y : SystemState) (v : Vaulted V)
-      → BeginsAt g.told g.may_leave g.faults s B p gs y v → is_some (g.told v.store) ≡ true → IsHistory s.log → IsServing y → IsUnpoked p.core
+      → BeginsAt g s B p gs y v → is_some (g.told v.store) ≡ true → IsHistory s.log → IsServing y → IsUnpoked p.core
       → HoldsExpected p.log gs y
 
   abbrev pub VerifiesAlways : Type 0
   VerifiesAlways =
       (s : Start) (B : List (List Record)) (p : Point) (gs : List RegionState) (y : SystemState) (v : Vaulted V)
-      → BeginsAt g.told g.may_leave g.faults s B p gs y v → is_some (g.told v.store) ≡ true → IsHistory s.log → IsServing y → IsUnpoked p.core
+      → BeginsAt g s B p gs y v → is_some (g.told v.store) ≡ true → IsHistory s.log → IsServing y → IsUnpoked p.core
       → IfSome (g.told v.store) (λ fs. (L : List Record) → IsWholeLog fs.log y L → IsVerified y.sizes (in_memory gs) L)

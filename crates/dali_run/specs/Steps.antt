@@ -17,34 +17,34 @@
 use Rattle.std.specs.Prelude.{◌≡◌, ◌⊎◌, ◌↔◌, ◌<◌, ℕ, Bool, true, false, IsTrue, List, [], ◌∷◌, ◌++◌, Option, Some, None, IfSome, is_some, length, map, filter, flat_map}
 use Rattle.std.specs.List.{list_any}
 use Rattle.std.specs.FinMap as finite
-use Rattle.dali_memstore.specs.Fuse.{inner, passes_of, failed_of}
-use Rattle.dali_memstore.specs.declared.fuse.Fuse.{Fuse}
+use Rattle.dali_fuse.specs.Fuse.{inner, passes_of, failed_of}
+use Rattle.dali_fuse.specs.declared.fuse.Fuse.{Fuse}
 use Rattle.dali_record.specs.declared.records.Record.{Record}
 use Rattle.dali_calls.specs.Flags.{FlagsStay}
 use Rattle.dali_calls.specs.Others.{IsGone}
 use Rattle.dali_store.specs.Faults.{Rose}
 use Rattle.dali_store.specs.Store.{Files, Only, Elapses}
 use Rattle.dali_store.specs.declared.store.Store.{Ghosts}
-use Rattle.dali_batch.specs.Batch.{IsUnformatted}
-use Rattle.dali_batch.specs.Formatting.{IsFormattedBy}
-use Rattle.dali_batch.specs.Reads.{OnlyReads}
-use Rattle.dali_system.specs.declared.causes.Cause.{Cause}
-use Rattle.dali_system.specs.State.{SystemState, state_of}
+use Rattle.dali_log.specs.Batch.{IsUnformatted}
+use Rattle.dali_log.specs.Formatting.{IsFormattedBy}
+use Rattle.dali_log.specs.Reads.{OnlyReads}
+use Rattle.dali_runs.specs.declared.causes.Cause.{Cause}
+use Rattle.dali_runs.specs.State.{SystemState, state_of}
 use Rattle.dali_crash.specs.Checkpoints.{Point}
 use Rattle.dali_crash.specs.Traces.{Start}
-use Rattle.dali_vault.specs.Vaulted.{with_store}
+use Rattle.dali_core.specs.Vault.Vaulted.{with_store}
 use Rattle.dali_clean.specs.Cleaned.{AreDead, IsDead}
 use Rattle.dali_clean.specs.Others.{OthersStay}
-use Rattle.dali_whole.specs.declared.whole.Core.{Core}
-use Rattle.dali_whole.specs.Cleaned.{EndsAt}
-use Rattle.dali_whole.specs.Cores.{IsWholeCore, IsNoShorter}
+use Rattle.dali_core.specs.declared.whole.Core.{Core}
+use Rattle.dali_core.specs.Cleaned.{EndsAt}
+use Rattle.dali_core.specs.Cores.{IsWholeCore, IsNoShorter}
 use Rattle.dali_restart.specs.declared.restarting.Report.{Report}
 use Rattle.dali_restart.specs.Formatted.{first_body, IsNewCore, RunBegins, IsLeft as IsMade}
 use Rattle.dali_restart.specs.Restarting.{outcome, Gives, IsReadAs, IsFresh, BeginsRun, LeavesAtRest, StaysIdle, IsLeft}
 use Rattle.dali_transcripts.specs.Words.{Act, Pokes, Audits, Checkpoints}
 use Rattle.dali_transcripts.specs.World.{is_dead_in}
 use Rattle.dali_transcripts.specs.Transcripts.{Told}
-use Rattle.dali_clients.specs.Said.{Transcribed}
+use Rattle.dali_transcripts.specs.Clients.Said.{Transcribed}
 use Rattle.dali_round.specs.Leads.{lines_in, BeginsAt, RoundLeads}
 use Rattle.dali_round.specs.Moments.{RoundLeavesRight}
 use Rattle.dali_listing.specs.declared.Listed.{Listed}

@@ -1,13 +1,13 @@
 -- What an audit outside of a round says of stray writes.
 --     LoneAuditTells     where it answers from a point of a run, it names just the regions whose stray writes don't cancel
 use Rattle.std.specs.Prelude.{◌≡◌, ◌≢◌, ◌↔◌, ℕ, Bool, List, [], ◌∷◌, Some, Contains, map, slice_get}
-use Rattle.dali_memstore.specs.declared.fuse.Fuse.{Fuse}
+use Rattle.dali_fuse.specs.declared.fuse.Fuse.{Fuse}
 use Rattle.dali_record.specs.declared.records.Record.{Record}
 use Rattle.dali_region.specs.State.{RegionState}
 use Rattle.dali_round.specs.Leads.{lines_in}
 use Rattle.dali_store.specs.declared.store.Store.{Ghosts}
 use Rattle.dali_transcripts.specs.Words.{Audits, AuditSaid}
-use Rattle.dali_whole.specs.declared.whole.Core.{Core}
+use Rattle.dali_core.specs.declared.whole.Core.{Core}
 use Rattle.dali_run.specs.Steps.{ActsAlone}
 use Rattle.dali_run.specs.Survives.{IsPointOf}
 

@@ -28,25 +28,25 @@ use Rattle.std.proofs.Common.{inl, inr}
 use Rattle.dali_arguments.specs.Meaning.{meaning}
 use Rattle.dali_arguments.specs.declared.task.Task.{Task}
 use Rattle.dali_arguments.specs.declared.task.Task.TheVariants.{Run, Generate}
-use Rattle.dali_batch.specs.Batch.{IsUnformatted}
+use Rattle.dali_log.specs.Batch.{IsUnformatted}
 use Rattle.dali_record.specs.declared.records.Record.{Record}
 use Rattle.dali_record.specs.Epochs.{last_epoch}
 use Rattle.dali_record.specs.Files.{Files}
 use Rattle.dali_generator.specs.Generated.{generated}
 use Rattle.dali_history.specs.History.{IsHistory}
-use Rattle.dali_memstore.specs.Fuse.{inner}
-use Rattle.dali_memstore.specs.declared.fuse.Fuse.{Fuse}
+use Rattle.dali_fuse.specs.Fuse.{inner}
+use Rattle.dali_fuse.specs.declared.fuse.Fuse.{Fuse}
 use Rattle.dali_store.specs.Store.{Files as Disk}
 use Rattle.dali_store.specs.declared.store.Store.{Ghosts}
-use Rattle.dali_system.specs.Crashes.{NoneEscapes}
-use Rattle.dali_system.specs.Run.{log_in}
-use Rattle.dali_system.specs.State.{VaultState, stable}
-use Rattle.dali_clients.specs.Said.{Transcribed}
+use Rattle.dali_runs.specs.Crashes.{NoneEscapes}
+use Rattle.dali_runs.specs.Run.{log_in}
+use Rattle.dali_runs.specs.State.{VaultState, stable}
+use Rattle.dali_transcripts.specs.Clients.Said.{Transcribed}
 use Rattle.dali_crash.specs.Checkpoints.{Point}
 use Rattle.dali_crash.specs.Traces.{Start}
-use Rattle.dali_traces.specs.Disks.{Spells}
-use Rattle.dali_again.specs.Found.{FindsIt}
-use Rattle.dali_whole.specs.declared.whole.Core.{Core}
+use Rattle.dali_crash.specs.Disks.Disks.{Spells}
+use Rattle.dali_resume.specs.Interrupted.Found.{FindsIt}
+use Rattle.dali_core.specs.declared.whole.Core.{Core}
 use Rattle.dali_restart.specs.Headline.{IsPlaced}
 use Rattle.dali_round.specs.Leads.{BeginsAt}
 use Rattle.dali_script.specs.declared.commands.Command.{Command}

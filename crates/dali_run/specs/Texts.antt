@@ -9,7 +9,7 @@ use Rattle.std.specs.Prelude.{ℕ, zero, suc, Bool, true, false, List, [], ◌�
 use Rattle.std.specs.List.{list_any}
 use Rattle.dali_transcripts.specs.Words.{Said, Refused, StoreFailed}
 use Rattle.dali_transcripts.specs.Transcripts.{Told, round_text}
-use Rattle.dali_clients.specs.Said.{Transcribed}
+use Rattle.dali_transcripts.specs.Clients.Said.{Transcribed}
 use Rattle.dali_round.specs.Leads.{lines_in}
 use Rattle.dali_listing.specs.declared.Listed.{Listed}
 use Rattle.dali_report.specs.declared.printed.Line.{Line}

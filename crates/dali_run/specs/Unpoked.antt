@@ -9,14 +9,14 @@ use Rattle.std.specs.List.Sorted.{IsStrictlySortedBy}
 use Rattle.dali_history.specs.Serial.{Map, expected}
 use Rattle.dali_listing.specs.declared.Listed.{Listed}
 use Rattle.dali_listing.specs.Listing.{in_memory, order, pairs_of}
-use Rattle.dali_memstore.specs.declared.fuse.Fuse.{Fuse}
+use Rattle.dali_fuse.specs.declared.fuse.Fuse.{Fuse}
 use Rattle.dali_record.specs.declared.records.Record.{Record}
 use Rattle.dali_region.specs.State.{RegionState}
 use Rattle.dali_report.specs.declared.printed.Line.TheVariants as lines
 use Rattle.dali_report.specs.Lines.{texts}
 use Rattle.dali_store.specs.declared.store.Store.{Ghosts}
 use Rattle.dali_verify.specs.Verified.{IsWholeLog, IsVerified}
-use Rattle.dali_whole.specs.declared.whole.Core.{Core}
+use Rattle.dali_core.specs.declared.whole.Core.{Core}
 use Rattle.dali_run.specs.Program.{told_in}
 use Rattle.dali_run.specs.Steps.{HasCleaned, Lists}
 use Rattle.dali_run.specs.Survives.{BeginsWith, IsPointOf}

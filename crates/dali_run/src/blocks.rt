@@ -1,11 +1,11 @@
 //! The blocks of a script as clients take them.
 ghost use Rattle.std.specs.Prelude.{◌≡◌, ◌∷◌, [], IfOk, map};
-ghost use Rattle.dali_clients.specs.Told.{act_of, told_of};
+ghost use Rattle.dali_transcripts.specs.Clients.Told.{act_of, told_of};
 ghost use Rattle.dali_run.specs.Told.{act_by, told_by, alone};
 
-use dali_clients::{Block, Command};
 use dali_record::Call;
 use dali_script::ClientCommand;
+use dali_transcripts::clients::{Block, Command};
 use std::alloc::{AllocError, Global};
 
 fn command_of(told: &ClientCommand) -> Command

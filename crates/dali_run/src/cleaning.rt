@@ -1,6 +1,6 @@
 //! The clean-up of dead transactions, and the commands that begin with it.
 ghost use Rattle.std.specs.Prelude.{◌≡◌, IfOk, IfErr, OnOk};
-ghost use Rattle.dali_system.specs.State.{state_of};
+ghost use Rattle.dali_runs.specs.State.{state_of};
 ghost use Rattle.dali_transcripts.specs.World.{is_dead_in};
 ghost use Rattle.dali_calls.specs.Flags.{FlagsStay};
 ghost use Rattle.dali_script.specs.declared.commands.Command.TheVariants as commands;
@@ -15,17 +15,17 @@ use crate::setting::Setting;
 use crate::states::down;
 use crate::texts::{text_of_line, text_of_records, text_of_stop};
 use dali_att::State;
+use dali_calls::stepwise::Gate;
 use dali_clean::CleanError;
-use dali_core::System;
+use dali_core::{Core, clean};
+use dali_fuse::Fuse;
 use dali_listing::records;
-use dali_memstore::Fuse;
 use dali_record::Numbers;
 use dali_report::Line;
 use dali_script::Name;
-use dali_stepwise::Gate;
 use dali_store::{FileName, Store};
+use dali_system::System;
 use dali_verify::VerifyError;
-use dali_whole::{Core, clean};
 use std::alloc::{AllocError, Global};
 
 fn is_dead(system: &System, txn: u64) -> bool

@@ -11,10 +11,10 @@ use crate::program::Program;
 use crate::rounds::{alone, round_of};
 use crate::setting::Setting;
 use crate::stores::{crash, fuse, open, size};
-use dali_clients::Command as ClientCommand;
+use dali_calls::stepwise::Gate;
 use dali_script::{Command, Name};
-use dali_stepwise::Gate;
 use dali_store::Store;
+use dali_transcripts::clients::Command as ClientCommand;
 
 /// Runs one command, and answers the text of its lines.
 pub fn step<V: Store, G: Gate>(

@@ -1,11 +1,11 @@
 //! A generated script, and the summary of what it leaves.
 ghost use Rattle.std.specs.Prelude.{◌≡◌, ◌≤◌, List, ℕ, None, false, IfErr, IfOk, IsErrOf, OnOk, map, length};
-ghost use Rattle.dali_clients.specs.Told.{said_of};
+ghost use Rattle.dali_transcripts.specs.Clients.Told.{said_of};
 ghost use Rattle.dali_generator.specs.Generated.{AreWithin, generated, index_regions, heap_regions};
 ghost use Rattle.dali_generator.specs.Summary.{summary_of};
 ghost use Rattle.dali_listing.specs.Listing.{IsListing, in_memory};
 ghost use Rattle.dali_listing.specs.declared.Listed.{Listed};
-ghost use Rattle.dali_memstore.specs.Fuse.{inner};
+ghost use Rattle.dali_fuse.specs.Fuse.{inner};
 ghost use Rattle.dali_script.specs.declared.commands.Command.TheVariants.{Size, Crash, Restart};
 ghost use Rattle.dali_streams.specs.Streams.{Appends};
 ghost use Rattle.dali_transcripts.specs.Rounds.{AreBlocks};
@@ -25,16 +25,16 @@ use crate::rounds::play;
 use crate::setting::Setting;
 use crate::stores::{crash, open, size as make};
 use crate::texts::write_whole;
-use dali_clients::{Line as Said, Transcript, Why};
+use dali_calls::stepwise::Gate;
+use dali_core::Core;
+use dali_fuse::Fuse;
 use dali_generator::{blocks, heap_regions, index_regions, summary};
 use dali_listing::{Listed, records};
-use dali_memstore::Fuse;
+use dali_runs::Cause;
 use dali_script::Block;
-use dali_stepwise::Gate;
 use dali_store::Store;
 use dali_streams::Sink;
-use dali_system::Cause;
-use dali_whole::Core;
+use dali_transcripts::clients::{Line as Said, Transcript, Why};
 use std::alloc::Global;
 
 /// A run that ended before its summary.

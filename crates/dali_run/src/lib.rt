@@ -21,7 +21,7 @@ mod stores;
 mod texts;
 mod top;
 
-pub use dali_stepwise::{Gate, OpenGate};
+pub use dali_calls::stepwise::{Gate, OpenGate};
 pub use loading::SOURCE_LIMIT;
 pub use scripts::SCRIPT_LIMIT;
 pub use status::Status;

@@ -2,9 +2,9 @@
 ghost use Rattle.std.specs.Prelude.{◌≡◌};
 ghost use Rattle.dali_run.specs.Program.{IsDown, store_of};
 
-use dali_memstore::Fuse;
+use dali_core::Core;
+use dali_fuse::Fuse;
 use dali_store::Store;
-use dali_whole::Core;
 
 /// The database in memory over its store, or the store alone. The store stands behind a fuse.
 #[derive(Drop)]

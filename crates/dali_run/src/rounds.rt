@@ -1,9 +1,9 @@
 //! Rounds, and what is a round of one client.
 ghost use Rattle.std.specs.Prelude.{◌≡◌, true, false, map, IfOk, IfErr, OnErr};
 ghost use Rattle.std.specs.List.{list_any};
-ghost use Rattle.dali_clients.specs.Told.{act_of, said_of, told_of};
+ghost use Rattle.dali_transcripts.specs.Clients.Told.{act_of, said_of, told_of};
 ghost use Rattle.dali_transcripts.specs.Rounds.{AreBlocks};
-ghost use Rattle.dali_whole.specs.Cores.{IsNoShorter};
+ghost use Rattle.dali_core.specs.Cores.{IsNoShorter};
 ghost use Rattle.dali_run.specs.declared.halt.Halt.TheVariants.{OutOfMemory};
 ghost use Rattle.dali_run.specs.Fails.{Lost, LostOver, Played, AloneEnds, AloneEndsIn};
 ghost use Rattle.dali_run.specs.Program.{PlacesIn, HoldsImages, store_of, told_in};
@@ -17,14 +17,14 @@ use crate::program::Program;
 use crate::setting::Setting;
 use crate::states::down;
 use crate::texts::{text_alone, text_of_line, text_of_round};
-use dali_clients::{Block, Command, Line as Said, Transcript, Why};
-use dali_memstore::Fuse;
+use dali_calls::stepwise::Gate;
+use dali_core::Core;
+use dali_fuse::Fuse;
 use dali_report::Line;
 use dali_round::{RoundEnd, round};
 use dali_script::Name;
-use dali_stepwise::Gate;
 use dali_store::Store;
-use dali_whole::Core;
+use dali_transcripts::clients::{Block, Command, Line as Said, Transcript, Why};
 
 /// Runs a round; its transcripts, if each client is done.
 pub fn play<V: Store, G: Gate>(

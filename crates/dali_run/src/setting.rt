@@ -1,6 +1,6 @@
 //! How a run is made.
 
-use dali_stepwise::Gate;
+use dali_calls::stepwise::Gate;
 use std::alloc::Global;
 
 /// What holds for a whole run.

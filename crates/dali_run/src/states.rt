@@ -7,7 +7,7 @@ ghost use Rattle.dali_run.specs.Steps.{Prints};
 use crate::halt::Halt;
 use crate::program::Program;
 use crate::texts::text_of_line;
-use dali_memstore::Fuse;
+use dali_fuse::Fuse;
 use dali_report::Line;
 use dali_script::Name;
 use dali_store::Store;

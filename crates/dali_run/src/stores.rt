@@ -1,7 +1,7 @@
 //! The commands that make a database, find it, or change the store.
 ghost use Rattle.std.specs.Prelude.{◌≡◌, ◌≤◌, ◌<◌, ◌∷◌, [], IfOk, IfErr};
 ghost use Rattle.dali_geometry.specs.Sizes.{AreInRange};
-ghost use Rattle.dali_memstore.specs.Fuse.{inner, failed_of};
+ghost use Rattle.dali_fuse.specs.Fuse.{inner, failed_of};
 ghost use Rattle.dali_report.specs.Lines.{texts};
 ghost use Rattle.dali_report.specs.declared.printed.Line.TheVariants as lines;
 ghost use Rattle.dali_restart.specs.declared.error.RestartError.TheVariants.{Fault};
@@ -16,11 +16,11 @@ use crate::halt::Halt;
 use crate::program::Program;
 use crate::setting::Setting;
 use crate::texts::{text_of_line, text_of_restart};
+use dali_calls::stepwise::Gate;
+use dali_fuse::Fuse;
 use dali_geometry::Geometry;
-use dali_memstore::Fuse;
 use dali_report::Line;
 use dali_restart::{RestartError, format, restart};
-use dali_stepwise::Gate;
 use dali_store::{Store, StoreFault};
 use std::alloc::Global;
 

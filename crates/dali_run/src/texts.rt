@@ -12,14 +12,14 @@ ghost use Rattle.dali_run.specs.Halts.{status_of, last_line};
 ghost use Rattle.dali_run.specs.Texts.{alone_texts, said_by, said_texts, shown};
 
 use crate::halt::Halt;
-use dali_clients::Transcript;
 use dali_listing::Listed;
 use dali_record::Numbers;
 use dali_report::{Line, client_line, line, said_line};
+use dali_runs::Cause;
 use dali_script::Name;
 use dali_store::FileName;
 use dali_streams::{Failed, Sink, write_all};
-use dali_system::Cause;
+use dali_transcripts::clients::Transcript;
 use itoa::Buffer;
 use std::alloc::Global;
 

@@ -15,7 +15,7 @@ use crate::setting::Setting;
 use crate::status::Status;
 use crate::texts::write_last_line;
 use dali_arguments::{Task, read};
-use dali_stepwise::Gate;
+use dali_calls::stepwise::Gate;
 use dali_store::Store;
 use dali_streams::{Sink, Source};
 use std::alloc::Global;

@@ -5,7 +5,7 @@ use Rattle.std.specs.List.{AllByRecursion}
 use Rattle.std.proofs.lemmas.Bool.{eq-eqb}
 use Rattle.dali_record.specs.declared.records.Record.{Record}
 use Rattle.dali_record.specs.declared.records.Record.TheVariants.{Forward, Back, Done, Commit, Ended}
-use Rattle.dali_room.specs.Room.{unless, steady_next}
+use Rattle.dali_history.specs.Room.Room.{unless, steady_next}
 use Rattle.dali_transcripts.specs.World.{Logs, Happening, logged_by}
 use Rattle.dali_transcripts.specs.Moves.{Receipt}
 use Rattle.dali_transcripts.specs.Transcripts.{owned_one, owned}

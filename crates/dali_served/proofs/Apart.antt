@@ -3,10 +3,10 @@ use Rattle.std.proofs.Common.{◌≡◌, ℕ, zero, suc, ◌+◌, ◌==◌, Bool
 use Rattle.std.specs.Prelude.{Contains, if◌then◌else◌, slice_get, take}
 use Rattle.std.specs.List.{AllByRecursion}
 use Rattle.std.proofs.lemmas.Bool.{eqb-true, eq-eqb}
-use Rattle.dali_counts.proofs.Lists.{some_same}
+use Rattle.dali_runs.proofs.CountsLemmas.Lists.{some_same}
 use Rattle.dali_record.specs.declared.records.Call.{Call}
 use Rattle.dali_record.specs.declared.records.Record.{Record}
-use Rattle.dali_system.specs.State.{CoreState}
+use Rattle.dali_runs.specs.State.{CoreState}
 use Rattle.dali_transcripts.specs.Rounds.{IsRound}
 use Rattle.dali_transcripts.specs.Words.{Said, key_of}
 use Rattle.dali_transcripts.specs.World.{Deed, GetsLock, Yields, Happening, World, logged_by}

@@ -9,7 +9,7 @@ use Rattle.std.proofs.lemmas.List.Concat.{flat_map-cons}
 use Rattle.dali_lists.proofs.Members.{all_append}
 use Rattle.dali_record.specs.declared.records.Call.{Call}
 use Rattle.dali_record.specs.declared.records.Record.TheVariants.{AuditFail, Restarted}
-use Rattle.dali_system.specs.declared.refusals.Refusal.{Refusal}
+use Rattle.dali_runs.specs.declared.refusals.Refusal.{Refusal}
 use Rattle.dali_transcripts.specs.Words.{Act, Begins as BeginAct, Calls, Commits as CommitAct, StoreFailed, Said, closes, key_of}
 use Rattle.dali_transcripts.specs.World.{Logs, DiesOn, Claims, GivesBack, GetsLock, Yields, FindsDead, Meets, World}
 use Rattle.dali_record.specs.declared.records.Record.TheVariants.{Forward, Back, Solo, Done, Ended}

@@ -12,7 +12,7 @@ use Rattle.std.proofs.lemmas.List.Concat.{flat_map-cons}
 use Rattle.dali_record.specs.declared.records.Answer.{Answer}
 use Rattle.dali_record.specs.declared.records.Call.{Call}
 use Rattle.dali_record.specs.declared.records.Record.TheVariants.{Begin, Forward, Back, Solo, Done, Commit, Ended}
-use Rattle.dali_system.specs.declared.refusals.Refusal.{Refusal}
+use Rattle.dali_runs.specs.declared.refusals.Refusal.{Refusal}
 use Rattle.dali_transcripts.specs.Words.{Act, Begins as BeginAct, Calls, Commits as CommitAct, Why, StoppedBy, Full, Damaged, StoreFailed, UnderWay, Said, Refused}
 use Rattle.dali_transcripts.specs.World.{Deed, Logs, Yields, World, stop_at}
 use Rattle.dali_transcripts.specs.Moves.{Receipt, Place, Outside, Within, Spot, Move, Begins, IsRefusedBegin, Answers, IsRefusedCall, GivesWay, GivesUp, Commits, CommitFails, IsRefusedCommit, at, from, said, own, to}

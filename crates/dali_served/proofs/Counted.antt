@@ -10,7 +10,7 @@ use Rattle.dali_record.specs.declared.records.Call.{Call}
 use Rattle.dali_record.specs.declared.records.Record.{Record}
 use Rattle.dali_record.specs.declared.records.Record.TheVariants.{Done}
 use Rattle.dali_record.specs.Log.{calls_of}
-use Rattle.dali_room.specs.Room.{is_insert, inserts_of}
+use Rattle.dali_history.specs.Room.Room.{is_insert, inserts_of}
 use Rattle.dali_transcripts.specs.World.{Deed, Logs, Happening, logged_by}
 use Rattle.dali_transcripts.specs.Transcripts.{owned_one, owned, count_with, Told, is_among}
 use Rattle.dali_served.specs.Served.{Once}

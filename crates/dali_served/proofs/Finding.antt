@@ -3,7 +3,7 @@ use Rattle.std.proofs.Common.{◌≡◌, ℕ, zero, suc, ◌==◌, Bool, true, f
 use Rattle.std.specs.Prelude.{Contains, filter_map, if◌then◌else◌, slice_get}
 use Rattle.std.specs.List.{AllByRecursion, cons_option}
 use Rattle.std.proofs.lemmas.Bool.{eqb-true, eq-eqb}
-use Rattle.dali_counts.proofs.Lists.{some_same}
+use Rattle.dali_runs.proofs.CountsLemmas.Lists.{some_same}
 use Rattle.dali_record.specs.declared.records.Record.{Record}
 use Rattle.dali_record.specs.declared.records.Record.TheVariants.{Begin}
 use Rattle.dali_transcripts.specs.World.{Deed, Logs, Happening, record_of}

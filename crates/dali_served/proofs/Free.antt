@@ -17,10 +17,10 @@ use Rattle.dali_record.specs.Log.{begin_by, begun, commit_by, committed}
 use Rattle.dali_record.proofs.Survivors.{begin_is}
 use Rattle.dali_history.specs.History.{IsHistory}
 use Rattle.dali_history.proofs.Places.{get_from_Contains}
-use Rattle.dali_room.specs.Room.{inserts, IsPlain, AllAnswer}
-use Rattle.dali_counts.proofs.Begins.{one_begin}
-use Rattle.dali_system.specs.Run.{first_of, fail_step, failed_first}
-use Rattle.dali_system.specs.State.{CoreState, TxnRow, row_of, state_in, state_of}
+use Rattle.dali_history.specs.Room.Room.{inserts, IsPlain, AllAnswer}
+use Rattle.dali_runs.proofs.CountsLemmas.Begins.{one_begin}
+use Rattle.dali_runs.specs.Run.{first_of, fail_step, failed_first}
+use Rattle.dali_runs.specs.State.{CoreState, TxnRow, row_of, state_in, state_of}
 use Rattle.dali_transcripts.specs.Words.{Said, StoreFailed}
 use Rattle.dali_transcripts.specs.World.{Deed, Logs, DiesOn, Meets, Happening, World, record_of, logged_by, log_of, failing as fails_by, has_failed, failed_at, stop_at, is_dead_in, is_claimed_in}
 use Rattle.dali_transcripts.specs.Moves.{Receipt, at, start}
@@ -29,8 +29,8 @@ use Rattle.dali_transcripts.specs.Rounds.{IsRound}
 use Rattle.dali_transcripts.specs.Laws.{IsIn}
 use Rattle.dali_transcripts.proofs.Lists.{all_get}
 use Rattle.dali_transcripts.proofs.Owned.{each_is_owned, owned_by_one, own_ascend}
-use Rattle.dali_room.proofs.Plain as plain
-use Rattle.dali_room.proofs.Counting.{from_filter_map, in_filter_map}
+use Rattle.dali_history.proofs.RoomLemmas.Plain as plain
+use Rattle.dali_history.proofs.RoomLemmas.Counting.{from_filter_map, in_filter_map}
 use Rattle.dali_served.specs.Served.{has_room, is_served, AllServed, acts_of, AreTold}
 use Rattle.dali_served.specs.Steady.{is_answered, steady_by, IsNoDeath, IsAlone}
 use Rattle.dali_served.specs.Apart.{AreAtHome}

@@ -8,7 +8,7 @@ use Rattle.std.proofs.lemmas.List.Elements.{filter-append}
 use Rattle.std.proofs.lemmas.List.Sums.{sum_by-cons}
 use Rattle.std.proofs.lemmas.Nat.{div-add-mod', div-mul-add}
 use Rattle.dali_record.specs.declared.records.Call.{Call}
-use Rattle.dali_room.specs.Room.{is_insert}
+use Rattle.dali_history.specs.Room.Room.{is_insert}
 use Rattle.dali_transcripts.specs.Words.{key_of as key_in}
 use Rattle.dali_transcripts.specs.Transcripts.{Told}
 use Rattle.dali_generator.specs.Generated.{draw, key_of, value_of, index_regions, heap_regions}

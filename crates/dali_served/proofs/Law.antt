@@ -10,7 +10,7 @@ use Rattle.dali_record.specs.declared.records.Record.{Record}
 use Rattle.dali_record.specs.declared.records.Record.TheVariants.{Format, AuditFail}
 use Rattle.dali_record.specs.Log.{committed}
 use Rattle.dali_record.specs.Legal.{sizes_of}
-use Rattle.dali_system.specs.State.{stable}
+use Rattle.dali_runs.specs.State.{stable}
 use Rattle.dali_transcripts.specs.Words.{Said}
 use Rattle.dali_transcripts.specs.World.{World, Happening, record_of, logged_by, log_of}
 use Rattle.dali_transcripts.specs.Moves.{Receipt, at, start}

@@ -12,7 +12,7 @@ use Rattle.std.proofs.lemmas.Bool.{and_parts}
 use Rattle.dali_record.specs.declared.records.Call.{Call}
 use Rattle.dali_record.specs.declared.records.Answer.{Answer}
 use Rattle.dali_record.specs.declared.records.Record.TheVariants.{Forward, Done, Commit, Ended, Solo, AuditFail, Back}
-use Rattle.dali_system.specs.State.{stable}
+use Rattle.dali_runs.specs.State.{stable}
 use Rattle.dali_transcripts.specs.Words.{Act, Begins as BeginAct, Calls, Commits as CommitAct, Said, StoreFailed}
 use Rattle.dali_transcripts.specs.World.{Logs, Claims, GivesBack, GetsLock, FindsDead, Meets, World}
 use Rattle.dali_transcripts.specs.Moves.{Receipt, Place, Outside, Within, Move, Spot, at, said, own}

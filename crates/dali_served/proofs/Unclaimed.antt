@@ -6,7 +6,7 @@ use Rattle.std.proofs.lemmas.List.{append-nil, append_assoc, length-append, take
 use Rattle.std.proofs.lemmas.List.Sums.{fold-append}
 use Rattle.dali_att.specs.declared.state.State.{State}
 use Rattle.dali_record.specs.declared.records.Record.TheVariants.{Begin, Commit, Ended}
-use Rattle.dali_system.specs.State.{state_of}
+use Rattle.dali_runs.specs.State.{state_of}
 use Rattle.dali_transcripts.specs.World.{Deed, Logs, DiesOn, Claims, GivesBack, Happening, World, state_step, state_after, is_dead_in, is_claimed_in}
 use Rattle.dali_transcripts.specs.Causes.{IsRight, AreRightFrom}
 use Rattle.dali_served.specs.Steady.{IsNoDeath, NoneIsClaimed}

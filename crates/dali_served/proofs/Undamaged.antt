@@ -3,7 +3,7 @@ use Rattle.std.proofs.Common.{◌≡◌, ℕ, suc, false, List, [], ◌∷◌, �
 use Rattle.std.specs.Prelude.{Contains}
 use Rattle.std.specs.List.{AllByRecursion}
 use Rattle.std.proofs.lemmas.List.Sums.{fold-append}
-use Rattle.dali_headline.proofs.Undamaged.{all_survive}
+use Rattle.dali_history.proofs.HeadlineLemmas.Undamaged.{all_survive}
 use Rattle.dali_history.specs.Serial.{survivors}
 use Rattle.dali_record.specs.declared.records.Record.{Record}
 use Rattle.dali_record.specs.declared.records.Record.TheVariants.{Format, AuditFail, Restarted}

@@ -13,7 +13,7 @@ use Rattle.dali_lists.proofs.Members.{all_append, all_map, contains_first}
 use Rattle.dali_record.specs.declared.records.Answer.{Answer}
 use Rattle.dali_record.specs.declared.records.Call.{Call}
 use Rattle.dali_record.specs.declared.records.Record.TheVariants.{Begin, Forward, Back, Solo, Done, Commit, Ended}
-use Rattle.dali_room.specs.Room.{is_insert}
+use Rattle.dali_history.specs.Room.Room.{is_insert}
 use Rattle.dali_transcripts.specs.World.{Logs}
 use Rattle.dali_transcripts.specs.Moves.{Receipt}
 use Rattle.dali_served.specs.Steady.{is_of}

@@ -11,8 +11,8 @@ use Rattle.dali_record.specs.declared.records.Call.{Call}
 use Rattle.dali_record.specs.declared.records.Record.{Record}
 use Rattle.dali_record.specs.declared.records.Record.TheVariants.{Format}
 use Rattle.dali_history.specs.History.{IsHistory}
-use Rattle.dali_room.specs.Room.{is_insert}
-use Rattle.dali_system.specs.State.{CoreState, row_of}
+use Rattle.dali_history.specs.Room.Room.{is_insert}
+use Rattle.dali_runs.specs.State.{CoreState, row_of}
 use Rattle.dali_transcripts.specs.Words.{Said, Refused, Full}
 use Rattle.dali_transcripts.specs.World.{log_of}
 use Rattle.dali_transcripts.specs.Transcripts.{Told}

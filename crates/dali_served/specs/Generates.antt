@@ -16,7 +16,7 @@ use Rattle.dali_listing.specs.Listing.{IsListing}
 use Rattle.dali_record.specs.declared.records.Call.{Call}
 use Rattle.dali_record.specs.declared.records.Record.{Record}
 use Rattle.dali_record.specs.declared.records.Record.TheVariants.{Format}
-use Rattle.dali_system.specs.State.{CoreState}
+use Rattle.dali_runs.specs.State.{CoreState}
 use Rattle.dali_transcripts.specs.Words.{Said}
 use Rattle.dali_transcripts.specs.World.{log_of}
 use Rattle.dali_transcripts.specs.Transcripts.{Told}

@@ -19,7 +19,7 @@ use Rattle.dali_record.specs.declared.records.Record.{Record}
 use Rattle.dali_record.specs.declared.records.Record.TheVariants.{Format, AuditFail}
 use Rattle.dali_record.specs.Legal.{IsLegal}
 use Rattle.dali_record.specs.Log.{calls_of, committed}
-use Rattle.dali_system.specs.State.{CoreState, stable}
+use Rattle.dali_runs.specs.State.{CoreState, stable}
 use Rattle.dali_transcripts.specs.Words.{Act, Begins, Calls, Commits, Said, Begun, Answered, CommitOk}
 use Rattle.dali_transcripts.specs.World.{World, log_of}
 use Rattle.dali_transcripts.specs.Transcripts.{Told, is_among}

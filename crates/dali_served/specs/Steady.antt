@@ -12,9 +12,9 @@ use Rattle.std.specs.Prelude.{◌≡◌, ℕ, ◌==◌, Bool, true, false, List,
 use Rattle.std.specs.List.{list_all, AllByRecursion}
 use Rattle.dali_record.specs.declared.records.Record.{Record}
 use Rattle.dali_record.specs.declared.records.Record.TheVariants.{Format, Forward, Back, Done, Commit, Ended}
-use Rattle.dali_room.specs.Room.{steady_next, IsSteady}
+use Rattle.dali_history.specs.Room.Room.{steady_next, IsSteady}
 use Rattle.dali_transcripts.specs.Words.{Act, Said, Begun, Answered, CommitOk}
-use Rattle.dali_system.specs.State.{state_of}
+use Rattle.dali_runs.specs.State.{state_of}
 use Rattle.dali_transcripts.specs.World.{Logs, DiesOn, Happening, World, log_of, state_at, is_dead_in, is_claimed_in}
 use Rattle.dali_transcripts.specs.Moves.{Receipt}
 use Rattle.dali_transcripts.specs.Causes.{AreRight}

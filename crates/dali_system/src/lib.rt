@@ -1,9 +1,19 @@
-//! The system over regions and a vault: what a run of its steps keeps, as laws over lists of records.
+//! The system: the log, the transaction table and the locks, and the calls that log a record.
 #![tactic(auto)]
 
-mod causes;
+mod error;
+mod journal;
 pub mod laws;
-mod refusals;
+mod operation;
+mod promises;
+mod system;
+mod take_back;
+mod undos;
+mod want;
 
-pub use causes::Cause;
-pub use refusals::Refusal;
+pub use error::{NotDead, SystemError};
+pub use journal::Journal;
+pub use operation::{OpenOperation, Operation};
+pub use system::System;
+pub use take_back::TakeBack;
+pub use want::Want;

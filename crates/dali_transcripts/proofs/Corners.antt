@@ -1,11 +1,11 @@
 -- The second worked round.
 use Rattle.std.proofs.Common.{◌≡◌, ◌≢◌, ℕ, zero, suc, ◌<◌, true, false, [], ◌∷◌, Some, None, refl, ap, sym, subst, ◌∙◌, arith}
 use Rattle.std.specs.Prelude.{fold, length, slice_get, take, Contains, ◌↔◌}
-use Rattle.dali_counts.proofs.Lists.{some_same}
+use Rattle.dali_runs.proofs.CountsLemmas.Lists.{some_same}
 use Rattle.dali_record.specs.declared.records.Call.TheVariants.{Get}
 use Rattle.dali_record.specs.declared.records.Record.TheVariants.{Begin, Commit, AuditFail}
 use Rattle.dali_region.specs.State.{RegionState, loaded, poked}
-use Rattle.dali_system.specs.declared.causes.Cause.TheVariants.{Damage}
+use Rattle.dali_runs.specs.declared.causes.Cause.TheVariants.{Damage}
 use Rattle.dali_transcripts.specs.Words.{Begins as BeginAct, Calls, Commits as CommitAct, Aborts as AbortAct, Audits as AuditAct, Checkpoints as CheckpointAct, StoppedBy, Full}
 use Rattle.dali_transcripts.specs.World.{Logs, log_of, log_at, state_step, lock_step, stray_after}
 use Rattle.dali_transcripts.specs.Moves.{Outside, LeftOut, Begins, IsRefusedBegin, Skips, Aborts, Pokes, Audits, IsRefusedCheckpoint, at}

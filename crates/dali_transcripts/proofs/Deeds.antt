@@ -6,7 +6,7 @@ use Rattle.std.proofs.lemmas.List.Elements.{filter_map-append}
 use Rattle.std.proofs.lemmas.List.{append-nil}
 use Rattle.dali_record.specs.declared.records.Call.{Call}
 use Rattle.dali_record.specs.declared.records.Record.TheVariants.{Done, Ended, AuditBegin, AuditClean, AuditFail}
-use Rattle.dali_system.specs.declared.refusals.Refusal.{Refusal}
+use Rattle.dali_runs.specs.declared.refusals.Refusal.{Refusal}
 use Rattle.dali_transcripts.specs.Words.{Calls, Aborts as AbortAct, Audits as AuditAct, Checkpoints as CheckpointAct, Why, StoppedBy, Full, Damaged, StoreFailed, UnderWay, Said, Answered, AbortOk, Aborted, LeftOpen, Died, Busy, Refused}
 use Rattle.dali_transcripts.specs.World.{Logs, DiesOn, Claims, GivesBack, GetsLock, Yields, FindsDead, EndsCheckpoint, Meets, World}
 use Rattle.dali_transcripts.specs.Moves.{Receipt, Spot, Ending, TakenBack, LeftBehind, Move, Answers, IsRefusedCall, Dies, GivesWay, GivesUp, Commits, CommitFails, Aborts, IsRefusedAbort, Ends, StaysOpen, Audits, IsRefusedAudit, FailsCheckpoint, IsRefusedCheckpoint, said, own, to, end_line, end_own, spanned, refused_own}

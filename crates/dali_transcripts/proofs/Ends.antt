@@ -5,14 +5,14 @@ use Rattle.std.specs.List.{list_all}
 use Rattle.std.specs.Ordering.{nat_cmp}
 use Rattle.std.specs.FinMap.{get, empty, get-empty}
 use Rattle.std.proofs.lemmas.Bool.{ne_eqb, eqb-true}
-use Rattle.dali_counts.proofs.Lists.{some_same}
+use Rattle.dali_runs.proofs.CountsLemmas.Lists.{some_same}
 use Rattle.dali_record.specs.declared.records.Record.{Record}
 use Rattle.dali_record.specs.Spelling.{record_length}
 use Rattle.dali_region.specs.declared.Hold.{Hold}
 use Rattle.dali_region.specs.State.{RegionState, IsLive}
 use Rattle.dali_locks.specs.declared.mode.Mode.{Mode}
 use Rattle.dali_locks.specs.Locks.{lock_cmp}
-use Rattle.dali_system.specs.State.{SystemState, row_of, state_in, state_of, lock_of, log_after, stable}
+use Rattle.dali_runs.specs.State.{SystemState, row_of, state_in, state_of, lock_of, log_after, stable}
 use Rattle.dali_transcripts.specs.Words.{Said, StoreFailed}
 use Rattle.dali_transcripts.specs.World.{Meets, Happening, World, state_step, state_after, lock_step, lock_after, IsNoWeaker, is_claimed_in, has_failed, log_of, stray_after, poked_after, refused_by, Grows}
 use Rattle.dali_transcripts.specs.Causes.{AreRight, IsGrantable}

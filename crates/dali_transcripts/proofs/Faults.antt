@@ -6,11 +6,11 @@ use Rattle.std.specs.Ordering.{nat_cmp}
 use Rattle.dali_att.specs.Table.{fresh_row}
 use Rattle.dali_att.proofs.Changes.{get-added}
 use Rattle.std.proofs.lemmas.List.{append-nil}
-use Rattle.dali_counts.proofs.Lists.{some_same}
+use Rattle.dali_runs.proofs.CountsLemmas.Lists.{some_same}
 use Rattle.dali_record.specs.declared.records.Record.TheVariants.{Forward, Ended, AuditClean}
 use Rattle.dali_region.specs.State.{RegionState, loaded, poked}
-use Rattle.dali_system.specs.declared.causes.Cause.TheVariants.{Store}
-use Rattle.dali_system.specs.State.{row_of, state_in, state_of}
+use Rattle.dali_runs.specs.declared.causes.Cause.TheVariants.{Store}
+use Rattle.dali_runs.specs.State.{row_of, state_in, state_of}
 use Rattle.dali_transcripts.specs.Words.{Begins as BeginAct, Calls, Commits as CommitAct, Aborts as AbortAct, Checkpoints as CheckpointAct, StoppedBy, Damaged, StoreFailed, UnderWay}
 use Rattle.dali_locks.specs.declared.mode.Mode.TheVariants.{Exclusive}
 use Rattle.dali_transcripts.specs.World.{Logs, DiesOn, GetsLock, Meets, log_at, state_step, lock_step, is_claimed_in, stray_after}

@@ -6,7 +6,7 @@ use Rattle.std.proofs.lemmas.List.Elements.{filter_map-append}
 use Rattle.std.proofs.lemmas.Option.{slice_get_within}
 use Rattle.dali_lists.proofs.Lists.{get_front, get_behind}
 use Rattle.dali_lists.proofs.Members.{all_map}
-use Rattle.dali_counts.proofs.Lists.{length-push}
+use Rattle.dali_runs.proofs.CountsLemmas.Lists.{length-push}
 use Rattle.dali_geometry.specs.Places.{regions}
 use Rattle.dali_record.specs.declared.operations.Block.{Block}
 use Rattle.dali_record.specs.declared.records.Call.{Call}
@@ -15,9 +15,9 @@ use Rattle.dali_record.specs.declared.records.Record.TheVariants.{Commit, Forwar
 use Rattle.dali_record.specs.Epochs.{last_epoch}
 use Rattle.dali_record.specs.Spelling.{record_length}
 use Rattle.dali_locks.specs.declared.mode.Mode.{Mode}
-use Rattle.dali_system.specs.declared.refusals.Refusal.{Refusal}
-use Rattle.dali_system.specs.Run.{failed_first}
-use Rattle.dali_system.specs.State.{CoreState, state_of, lock_of}
+use Rattle.dali_runs.specs.declared.refusals.Refusal.{Refusal}
+use Rattle.dali_runs.specs.Run.{failed_first}
+use Rattle.dali_runs.specs.State.{CoreState, state_of, lock_of}
 use Rattle.dali_transcripts.specs.Words.{Act, Begins as BeginAct, Calls, Commits as CommitAct, Aborts as AbortAct, Audits as AuditAct, Checkpoints as CheckpointAct, Why, StoppedBy, Full, Damaged, StoreFailed, UnderWay}
 use Rattle.dali_transcripts.specs.World.{Deed, Logs, DiesOn, Claims, GivesBack, GetsLock, Yields, FindsDead, Meets, Happening, World, record_of, logged_by, log_of, log_at, IsLogged, IsFlushed, IsLost, IsUncommitted, HasDone, state_step, state_after, state_at, is_dead_in, is_claimed_in, HasDiedBy, HasEndedBy, has_failed, cause_of, claimer_step, claimer_at, HasGot, lock_step, lock_after, lock_at, stop_at, under_way, stray_after, Grows}
 use Rattle.dali_transcripts.specs.Moves.{Receipt, Place, Outside, Within, Again, Spot, Ending, TakenBack, LeftBehind, operations, Move, Begins, BeginsAgain, IsRefusedBegin, Skips, Rests, Answers, IsRefusedCall, Dies, IsArmed, GivesWay, GivesUp, Commits, CommitFails, IsRefusedCommit, Aborts, IsRefusedAbort, Ends, StaysOpen, Pokes, PokesNothing, Audits, IsRefusedAudit, Checkpoints, FailsCheckpoint, IsRefusedCheckpoint, to}

@@ -4,13 +4,13 @@ use Rattle.std.specs.Prelude.{Contains}
 use Rattle.std.proofs.lemmas.List.{append_assoc, append-nil}
 use Rattle.std.proofs.lemmas.List.Elements.{Contains-append_left}
 use Rattle.dali_record.specs.declared.records.Record.{Record}
-use Rattle.dali_system.specs.declared.causes.Cause.{Cause}
-use Rattle.dali_system.specs.declared.refusals.Refusal.{Refusal}
-use Rattle.dali_system.specs.State.{CoreState, VaultState, stable}
-use Rattle.dali_system.specs.Steps.{stop_by_audit, stopped_by}
-use Rattle.dali_system.specs.Flushes.{frame_of, longer}
-use Rattle.dali_system.specs.Courses.{Step, Begins, Operates, Answers, AuditEnds, Refuses, OnRegion, Dies, GivesBack, Recovers, Stops, Checkpoints, Takes, Flushes, Faults, ReadFails, IsStep, Moment, IsCourse}
-use Rattle.dali_system.proofs.Flushes.{longer_stopped}
+use Rattle.dali_runs.specs.declared.causes.Cause.{Cause}
+use Rattle.dali_runs.specs.declared.refusals.Refusal.{Refusal}
+use Rattle.dali_runs.specs.State.{CoreState, VaultState, stable}
+use Rattle.dali_runs.specs.Steps.{stop_by_audit, stopped_by}
+use Rattle.dali_runs.specs.Flushes.{frame_of, longer}
+use Rattle.dali_runs.specs.Courses.{Step, Begins, Operates, Answers, AuditEnds, Refuses, OnRegion, Dies, GivesBack, Recovers, Stops, Checkpoints, Takes, Flushes, Faults, ReadFails, IsStep, Moment, IsCourse}
+use Rattle.dali_runs.proofs.Flushes.{longer_stopped}
 use Rattle.dali_transcripts.specs.World.{Happening, World, Grows}
 use Rattle.dali_transcripts.specs.Grown.{world_of, StepsGrow, CoursesGrow}
 use Rattle.dali_transcripts.specs.Laws.{GrowsOn}

@@ -4,13 +4,13 @@ use Rattle.std.specs.Prelude.{◌+◌, ◌==◌, if◌then◌else◌, Contains, 
 use Rattle.std.specs.List.{list_all}
 use Rattle.std.proofs.lemmas.List.{length-append}
 use Rattle.dali_lists.proofs.Members.{contains_first}
-use Rattle.dali_counts.proofs.Lists.{equal, some_same}
+use Rattle.dali_runs.proofs.CountsLemmas.Lists.{equal, some_same}
 use Rattle.dali_record.proofs.Chains.{and_true}
 use Rattle.dali_record.specs.declared.records.Record.TheVariants.{Begin, Commit, Ended}
 use Rattle.dali_att.specs.declared.state.State.{State}
 use Rattle.dali_att.specs.declared.state.State.TheVariants.{Live, Dead, Cleaning, Committed}
-use Rattle.dali_system.specs.declared.causes.Cause.{Cause}
-use Rattle.dali_system.specs.State.{CoreState, TxnRow, row_of, state_in, state_of}
+use Rattle.dali_runs.specs.declared.causes.Cause.{Cause}
+use Rattle.dali_runs.specs.State.{CoreState, TxnRow, row_of, state_in, state_of}
 use Rattle.dali_transcripts.specs.World.{Deed, Logs, DiesOn, Claims, GivesBack, Happening, World, logged_by, log_at, claimed, given_back, state_step, is_dead_in}
 use Rattle.dali_transcripts.specs.Words.{Act, Said, Died}
 use Rattle.dali_transcripts.specs.Moves.{Receipt}

@@ -25,3 +25,5 @@ pub mod Looks
 pub mod LooksRight
 pub mod Left
 pub mod Wrong
+pub mod ClientsLemmas
+pub mod TellingLemmas

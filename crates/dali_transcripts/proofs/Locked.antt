@@ -2,7 +2,7 @@
 use Rattle.std.proofs.Common.{◌≡◌, ℕ, zero, suc, Bool, true, false, List, [], ◌∷◌, Option, Some, None, refl, ap, sym, ◌∙◌}
 use Rattle.std.specs.Prelude.{◌==◌, ◌&&◌, ◌||◌, not}
 use Rattle.std.specs.List.{list_all}
-use Rattle.dali_counts.proofs.Lists.{self, equal}
+use Rattle.dali_runs.proofs.CountsLemmas.Lists.{self, equal}
 use Rattle.dali_record.proofs.Chains.{and_true}
 use Rattle.dali_record.specs.declared.records.Record.{Record}
 use Rattle.dali_record.specs.Blocks.{changes_item}

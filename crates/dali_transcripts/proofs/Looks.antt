@@ -6,7 +6,7 @@ use Rattle.std.proofs.lemmas.Option.{slice_get_within}
 use Rattle.dali_record.specs.declared.operations.Block.{Block}
 use Rattle.dali_record.specs.declared.records.Record.TheVariants.{Forward}
 use Rattle.dali_region.specs.State.{RegionState}
-use Rattle.dali_system.specs.State.{CoreState}
+use Rattle.dali_runs.specs.State.{CoreState}
 use Rattle.dali_transcripts.specs.World.{Deed, Logs, DiesOn, Happening, World, stray_after, Grows}
 use Rattle.dali_transcripts.specs.Rounds.{WasRight, HasLooked, AreAtOnce}
 use Rattle.dali_transcripts.specs.Together.{RightBy, RightNow, AtOnceAtFirst, AtOnceByDeed, AtOnceByNone, AtOnceTells}

@@ -5,11 +5,11 @@ use Rattle.std.proofs.lemmas.Bool.{le-ltb, lt-ltb}
 use Rattle.std.proofs.lemmas.List.Concat.{flat_map-cons}
 use Rattle.std.proofs.lemmas.List.Elements.{filter_map-append}
 use Rattle.std.proofs.lemmas.List.{append-nil, append_assoc}
-use Rattle.dali_counts.proofs.Lists.{self}
+use Rattle.dali_runs.proofs.CountsLemmas.Lists.{self}
 use Rattle.dali_record.specs.declared.records.Call.{Call}
 use Rattle.dali_record.specs.declared.records.Record.TheVariants.{Forward, Back, Done, Ended, Solo, AuditBegin, AuditClean, AuditFail}
-use Rattle.dali_system.specs.declared.refusals.Refusal.{Refusal}
-use Rattle.dali_system.specs.State.{stable}
+use Rattle.dali_runs.specs.declared.refusals.Refusal.{Refusal}
+use Rattle.dali_runs.specs.State.{stable}
 use Rattle.dali_transcripts.specs.Words.{Act, Begins as BeginAct, Calls, Commits as CommitAct, Aborts as AbortAct, Audits as AuditAct, Checkpoints as CheckpointAct, Why, StoppedBy, Full, Damaged, StoreFailed, UnderWay, Said, Answered, AbortOk, Aborted, LeftOpen, Died, Busy, AuditSaid, CheckpointSaid, CheckpointFailed, Refused, closes, is_stop}
 use Rattle.dali_transcripts.specs.World.{Logs, DiesOn, Claims, GivesBack, GetsLock, Yields, FindsDead, MovesAnchor, EndsCheckpoint, Meets, World}
 use Rattle.dali_transcripts.specs.Moves.{Receipt, Place, Outside, Within, Again, LeftOut, Gone, Spot, Ending, TakenBack, LeftBehind, Move, Begins, BeginsAgain, IsRefusedBegin, Skips, Rests, Answers, IsRefusedCall, Dies, IsArmed, GivesWay, GivesUp, Commits, CommitFails, IsRefusedCommit, Aborts, IsRefusedAbort, Ends, StaysOpen, Pokes, PokesNothing, Audits, IsRefusedAudit, Checkpoints, FailsCheckpoint, IsRefusedCheckpoint, from, said, own, to, end_line, end_own, is_open, left, operations, audit_own, failure_own, spanned, refused_own}

@@ -4,7 +4,7 @@ use Rattle.std.specs.Prelude.{Contains, ◌==◌, take}
 use Rattle.std.specs.List.{AllByRecursion}
 use Rattle.std.proofs.lemmas.List.{append_assoc}
 use Rattle.dali_lists.proofs.Lists.{get_behind}
-use Rattle.dali_counts.proofs.Lists.{self, equal, some_same, length-push}
+use Rattle.dali_runs.proofs.CountsLemmas.Lists.{self, equal, some_same, length-push}
 use Rattle.dali_record.specs.declared.records.Record.{Record}
 use Rattle.dali_transcripts.specs.World.{Deed, Logs, Strays, DiesOn, Claims, GivesBack, GetsLock, Yields, FindsDead, StartsCheckpoint, MovesAnchor, EndsCheckpoint, Meets, Happening, logged_by}
 use Rattle.dali_transcripts.specs.Moves.{Receipt}

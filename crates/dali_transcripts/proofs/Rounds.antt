@@ -3,7 +3,7 @@ use Rattle.std.proofs.Common.{◌≡◌, ℕ, zero, suc, ◌+◌, ◌<◌, ◌�
 use Rattle.std.specs.Prelude.{◌==◌, Contains}
 use Rattle.std.proofs.lemmas.List.{append_assoc, append-nil, length-append}
 use Rattle.std.proofs.lemmas.Bool.{false_from_ne_true}
-use Rattle.dali_counts.proofs.Lists.{self, set_cases}
+use Rattle.dali_runs.proofs.CountsLemmas.Lists.{self, set_cases}
 use Rattle.dali_transcripts.specs.Words.{Act, Said}
 use Rattle.dali_transcripts.specs.World.{Deed, Logs, Strays, DiesOn, Claims, GivesBack, GetsLock, Yields, FindsDead, StartsCheckpoint, MovesAnchor, EndsCheckpoint, Meets, Happening, World, logged_by, log_of, Grows}
 use Rattle.dali_transcripts.specs.Moves.{Receipt, Spot, at, start}

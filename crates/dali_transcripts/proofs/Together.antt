@@ -5,7 +5,7 @@ use Rattle.std.proofs.lemmas.List.{append-nil, append_assoc, take-append-le}
 use Rattle.std.proofs.lemmas.List.Elements.{filter_map-append}
 use Rattle.std.proofs.lemmas.List.Sums.{fold-append, sum_by-append}
 use Rattle.std.proofs.lemmas.Option.{slice_get_within}
-use Rattle.dali_counts.proofs.Lists.{some_same}
+use Rattle.dali_runs.proofs.CountsLemmas.Lists.{some_same}
 use Rattle.dali_record.specs.declared.records.Record.{Record}
 use Rattle.dali_record.specs.declared.records.Record.TheVariants.{Forward}
 use Rattle.dali_record.specs.Spelling.{record_length}
@@ -13,9 +13,9 @@ use Rattle.dali_record.proofs.Chains.{true_and, and_true}
 use Rattle.dali_region.specs.State.{RegionState}
 use Rattle.dali_locks.specs.declared.mode.Mode.{Mode}
 use Rattle.dali_locks.specs.declared.mode.Mode.TheVariants.{Shared, Exclusive}
-use Rattle.dali_system.specs.Run.{HasRisen}
-use Rattle.dali_system.specs.State.{CoreState, state_of, lock_of}
-use Rattle.dali_system.specs.Steps.{audit_record}
+use Rattle.dali_runs.specs.Run.{HasRisen}
+use Rattle.dali_runs.specs.State.{CoreState, state_of, lock_of}
+use Rattle.dali_runs.specs.Steps.{audit_record}
 use Rattle.dali_transcripts.specs.Words.{StoreFailed}
 use Rattle.dali_transcripts.specs.World.{Deed, Logs, DiesOn, StartsCheckpoint, MovesAnchor, EndsCheckpoint, Meets, Happening, World, logged_by, log_of, log_at, state_step, state_after, lock_step, lock_after, IsNoWeaker, failing, has_failed, span_step, stray_step, stray_after, poked_step, poked_after, refusal_of, refused_by, Grows}
 use Rattle.dali_transcripts.specs.Rounds.{AreSpans, AreAnchors, PokesTell, VerdictsTell, FaultsTell, room_for, ends_within, fits, HasLooked, PrecheckTells, HoldsTogether}

@@ -3,7 +3,7 @@ use Rattle.std.proofs.Common.{◌≡◌, ℕ, zero, suc, ◌+◌, ◌<◌, false
 use Rattle.std.proofs.lemmas.Grind.{flat_map-append}
 use Rattle.std.proofs.lemmas.List.{append_assoc, append-nil}
 use Rattle.dali_record.specs.declared.records.Call.{Call}
-use Rattle.dali_system.specs.declared.refusals.Refusal.{Refusal}
+use Rattle.dali_runs.specs.declared.refusals.Refusal.{Refusal}
 use Rattle.dali_transcripts.specs.Words.{Act, Begins as BeginAct, Calls, Said, Begun, Aborted, Busy}
 use Rattle.dali_transcripts.specs.World.{World}
 use Rattle.dali_transcripts.specs.Moves.{Place, Outside, Within, Again, Spot, TakenBack, Move, Begins, BeginsAgain, GivesWay, GivesUp, from, said, to, at, start}

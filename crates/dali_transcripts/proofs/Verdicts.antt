@@ -3,9 +3,9 @@ use Rattle.std.proofs.Common.{◌≡◌, ℕ, zero, suc, Bool, true, false, List
 use Rattle.std.specs.Prelude.{slice_get, take, drop, not}
 use Rattle.std.specs.List.{list_all}
 use Rattle.dali_lists.proofs.Tests.{left_true, right_true}
-use Rattle.dali_counts.proofs.Lists.{some_same}
+use Rattle.dali_runs.proofs.CountsLemmas.Lists.{some_same}
 use Rattle.dali_record.specs.declared.records.Record.TheVariants.{Forward, AuditClean, AuditFail}
-use Rattle.dali_system.specs.Steps.{audit_record}
+use Rattle.dali_runs.specs.Steps.{audit_record}
 use Rattle.dali_transcripts.specs.World.{Logs, DiesOn, Happening}
 
 abbrev pub is_end : Happening → Bool

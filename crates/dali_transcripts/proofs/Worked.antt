@@ -4,11 +4,11 @@ use Rattle.std.specs.Prelude.{take, ◌+◌, ◌*◌, ◌^◌, ◌≤◌, ◌++�
 use Rattle.std.specs.List.{list_all}
 use Rattle.std.proofs.lemmas.Bool.{ne_eqb}
 use Rattle.dali_lists.proofs.Tests.{left_true, right_true}
-use Rattle.dali_counts.proofs.Lists.{self, some_same}
+use Rattle.dali_runs.proofs.CountsLemmas.Lists.{self, some_same}
 use Rattle.dali_region.specs.State.{loaded}
 use Rattle.dali_locks.specs.declared.mode.Mode.TheVariants.{Shared, Exclusive}
-use Rattle.dali_index.specs.Entries.{entries}
-use Rattle.dali_heap.specs.Cells.{cells}
+use Rattle.dali_access.specs.Index.Entries.{entries}
+use Rattle.dali_access.specs.Heap.Cells.{cells}
 use Rattle.dali_record.specs.declared.operations.Block.{Block}
 use Rattle.dali_record.specs.declared.operations.Op.TheVariants.{Look, Put, Add, Read, FreeEntry, FreeCell}
 use Rattle.dali_record.specs.Blocks.{made, rewritten}
@@ -17,7 +17,7 @@ use Rattle.dali_record.specs.declared.records.Answer.TheVariants.{Ok as AnswerOk
 use Rattle.dali_record.specs.declared.records.Record.{Record}
 use Rattle.dali_record.specs.declared.records.Record.TheVariants.{Forward, Commit, Ended, Back}
 use Rattle.dali_record.specs.Epochs.{last_epoch}
-use Rattle.dali_system.specs.Keeps.{IsNext}
+use Rattle.dali_runs.specs.Keeps.{IsNext}
 use Rattle.dali_transcripts.specs.Words.{Calls, Arms, Commits as CommitAct}
 use Rattle.dali_transcripts.specs.World.{Logs, DiesOn, Claims, GetsLock, FindsDead, log_at, HasDone, HasDiedBy, state_step, lock_step, IsUncommitted}
 use Rattle.dali_transcripts.specs.Moves.{Receipt, Outside, Gone, TakenBack, Move, Begins, BeginsAgain, Rests, Answers, Dies, IsArmed, GivesWay, Commits, at}

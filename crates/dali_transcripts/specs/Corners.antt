@@ -6,9 +6,9 @@ use Rattle.std.specs.Prelude.{true, false, List, [], ◌∷◌, Some, map}
 use Rattle.dali_record.specs.declared.records.Call.TheVariants.{Get}
 use Rattle.dali_record.specs.declared.records.Record.TheVariants.{Begin, Ended, AuditBegin, AuditFail}
 use Rattle.dali_region.specs.State.{loaded, poked}
-use Rattle.dali_system.specs.declared.causes.Cause.TheVariants.{Damage}
-use Rattle.dali_system.specs.State.{CoreState}
-use Rattle.dali_system.specs.Loads.{new_system}
+use Rattle.dali_runs.specs.declared.causes.Cause.TheVariants.{Damage}
+use Rattle.dali_runs.specs.State.{CoreState}
+use Rattle.dali_runs.specs.Loads.{new_system}
 use Rattle.dali_transcripts.specs.Words.{Act, Begins, Calls, Commits, Aborts, Pokes, Audits, Checkpoints, StoppedBy, Full, Said, Begun, AbortOk, PokeOk, AuditSaid, Refused}
 use Rattle.dali_transcripts.specs.World.{Logs, Strays, Meets, Happening, World, logged_by}
 use Rattle.dali_transcripts.specs.Transcripts.{Told}

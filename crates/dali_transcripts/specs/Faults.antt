@@ -10,9 +10,9 @@ use Rattle.dali_att.specs.declared.state.State.TheVariants.{Committed}
 use Rattle.dali_att.specs.Table.{fresh_row, with_state}
 use Rattle.dali_record.specs.declared.records.Record.TheVariants.{Begin, Forward, Commit, Ended, AuditBegin, AuditClean}
 use Rattle.dali_region.specs.State.{loaded, poked}
-use Rattle.dali_system.specs.declared.causes.Cause.TheVariants.{Store}
-use Rattle.dali_system.specs.State.{CoreState, TxnRow}
-use Rattle.dali_system.specs.Loads.{new_system}
+use Rattle.dali_runs.specs.declared.causes.Cause.TheVariants.{Store}
+use Rattle.dali_runs.specs.State.{CoreState, TxnRow}
+use Rattle.dali_runs.specs.Loads.{new_system}
 use Rattle.dali_transcripts.specs.Words.{Act, Begins, Calls, Commits, Aborts, Pokes, Checkpoints, StoppedBy, Damaged, StoreFailed, UnderWay, Said, Begun, CommitOk, LeftOpen, PokeOk, CheckpointSaid, Refused}
 use Rattle.dali_transcripts.specs.World.{Logs, Strays, GetsLock, StartsCheckpoint, MovesAnchor, EndsCheckpoint, Meets, Happening, World, logged_by}
 use Rattle.dali_transcripts.specs.Transcripts.{Told}

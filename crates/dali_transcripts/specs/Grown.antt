@@ -3,8 +3,8 @@
 --     StepsGrow, CoursesGrow   a step, and a list of steps, leads from a world to one that goes on from it, whatever its clients do in it
 use Rattle.std.specs.Prelude.{Bool, List, ◌++◌}
 use Rattle.dali_record.specs.declared.records.Record.{Record}
-use Rattle.dali_system.specs.State.{CoreState}
-use Rattle.dali_system.specs.Courses.{Step, Moment, IsStepAt, IsCourse}
+use Rattle.dali_runs.specs.State.{CoreState}
+use Rattle.dali_runs.specs.Courses.{Step, Moment, IsStepAt, IsCourse}
 use Rattle.dali_transcripts.specs.World.{Happening, World, Grows}
 
 abbrev pub world_of : CoreState → List Record → Bool → List Happening → CoreState → World

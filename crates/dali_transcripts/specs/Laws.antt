@@ -25,7 +25,7 @@ use Rattle.std.specs.Prelude.{◌≡◌, ℕ, ◌+◌, ◌<◌, ◌≤◌, Bool,
 use Rattle.std.specs.List.{AllByRecursion, list_all}
 use Rattle.dali_record.specs.declared.records.Record.{Record}
 use Rattle.dali_record.specs.declared.records.Record.TheVariants.{Forward, Commit}
-use Rattle.dali_system.specs.State.{stable}
+use Rattle.dali_runs.specs.State.{stable}
 use Rattle.dali_transcripts.specs.Words.{Act, Calls, Commits as CommitAct, Said, Answered, CommitOk, CheckpointSaid, LeftOpen, Died, Busy, PokeOk, PokeOutOfRange, Refused, StoreFailed, is_stop}
 use Rattle.dali_transcripts.specs.World.{Deed, Logs, Strays, DiesOn, MovesAnchor, Happening, World, logged_by, log_of, IsFlushed, Grows}
 use Rattle.dali_transcripts.specs.Moves.{Receipt, Place, Within, Again, Gone, Spot, Move, from, said, own, to, at}

@@ -4,7 +4,7 @@
 --                              client died in it, and said so
 use Rattle.std.specs.Prelude.{◌≡◌, ◌⊎◌, ℕ, Bool, true, List, Some, None, Contains, IsSome, slice_get}
 use Rattle.dali_record.specs.declared.records.Record.{Record}
-use Rattle.dali_system.specs.State.{CoreState, row_of}
+use Rattle.dali_runs.specs.State.{CoreState, row_of}
 use Rattle.dali_transcripts.specs.Words.{Said, Died}
 use Rattle.dali_transcripts.specs.World.{DiesOn, World, HasDone, WasDead}
 use Rattle.dali_transcripts.specs.Transcripts.{Told}

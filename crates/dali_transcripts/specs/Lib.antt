@@ -15,3 +15,5 @@ pub mod Tries
 pub mod Together
 pub mod Left
 pub mod Looks
+pub mod Clients
+pub mod Telling

@@ -9,9 +9,9 @@ use Rattle.std.specs.Prelude.{ℕ, ◌+◌, ◌-◌, Bool, true, false, ◌||◌
 use Rattle.dali_record.specs.declared.records.Call.{Call}
 use Rattle.dali_record.specs.declared.records.Answer.{Answer}
 use Rattle.dali_record.specs.declared.records.Record.TheVariants.{Begin, Forward, Done, Commit, Ended, AuditBegin}
-use Rattle.dali_system.specs.declared.causes.Cause.{Cause}
-use Rattle.dali_system.specs.declared.refusals.Refusal.{Refusal}
-use Rattle.dali_system.specs.Steps.{audit_record}
+use Rattle.dali_runs.specs.declared.causes.Cause.{Cause}
+use Rattle.dali_runs.specs.declared.refusals.Refusal.{Refusal}
+use Rattle.dali_runs.specs.Steps.{audit_record}
 use Rattle.dali_transcripts.specs.World.{Deed, Logs, Strays, DiesOn, Yields, StartsCheckpoint, MovesAnchor, EndsCheckpoint, Meets}
 use Rattle.dali_transcripts.specs.Words.{Act, Begins as BeginAct, Calls, Arms, Commits as CommitAct, Aborts as AbortAct, Pokes as PokeAct, Audits as AuditAct, Checkpoints as CheckpointAct, Why, StoppedBy, StoreFailed, Said, Begun, Answered, CommitOk, AbortOk, Aborted, LeftOpen, Died, Busy, PokeOk, PokeOutOfRange, AuditSaid, CheckpointSaid, CheckpointFailed, Refused, is_stop, closes}
 

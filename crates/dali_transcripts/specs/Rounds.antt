@@ -26,10 +26,10 @@ use Rattle.dali_record.specs.declared.records.Record.{Record}
 use Rattle.dali_record.specs.declared.records.Record.TheVariants.{Begin, Forward, Back, Solo, Done, AuditBegin}
 use Rattle.dali_record.specs.Spelling.{IsCall, record_length}
 use Rattle.dali_region.specs.State.{RegionState, IsLive}
-use Rattle.dali_system.specs.declared.causes.Cause.{Cause}
-use Rattle.dali_system.specs.Run.{HasRisen}
-use Rattle.dali_system.specs.State.{CoreState, row_of, state_of, lock_of, log_after}
-use Rattle.dali_system.specs.Steps.{audit_record}
+use Rattle.dali_runs.specs.declared.causes.Cause.{Cause}
+use Rattle.dali_runs.specs.Run.{HasRisen}
+use Rattle.dali_runs.specs.State.{CoreState, row_of, state_of, lock_of, log_after}
+use Rattle.dali_runs.specs.Steps.{audit_record}
 use Rattle.dali_transcripts.specs.Words.{Act, Begins, Calls, Arms, Commits, Aborts, Pokes, Audits, Checkpoints, StoreFailed, Said}
 use Rattle.dali_transcripts.specs.World.{Deed, Logs, DiesOn, GivesBack, StartsCheckpoint, MovesAnchor, EndsCheckpoint, Meets, Happening, World, state_after, lock_after, IsNoWeaker, is_dead_in, is_claimed_in, has_failed, log_of, log_at, stray_after, poked_after, refused_by, Grows}
 use Rattle.dali_transcripts.specs.Moves.{Receipt, Spot}

@@ -4,9 +4,9 @@ use Rattle.std.specs.Prelude.{◌≡◌, ℕ, List, Contains, Option}
 use Rattle.std.specs.List.{AllByRecursion}
 use Rattle.dali_record.specs.declared.records.Call.{Call}
 use Rattle.dali_record.specs.declared.records.Record.TheVariants.{Begin, Done, Commit, Ended, AuditClean}
-use Rattle.dali_system.specs.declared.causes.Cause.{Cause}
-use Rattle.dali_system.specs.declared.refusals.Refusal.{Refusal}
-use Rattle.dali_system.specs.Steps.{audit_record}
+use Rattle.dali_runs.specs.declared.causes.Cause.{Cause}
+use Rattle.dali_runs.specs.declared.refusals.Refusal.{Refusal}
+use Rattle.dali_runs.specs.Steps.{audit_record}
 use Rattle.dali_transcripts.specs.Words.{Act, Commits as CommitAct, Why, StoppedBy, StoreFailed, Said, Begun, Answered, CommitOk, AbortOk, Aborted, LeftOpen, Died, Busy, PokeOk, PokeOutOfRange, AuditSaid, CheckpointSaid, CheckpointFailed, Refused}
 use Rattle.dali_transcripts.specs.World.{Deed, Logs, Strays, DiesOn, MovesAnchor, World, IsFlushed, IsLost, IsUncommitted}
 use Rattle.dali_transcripts.specs.Moves.{Receipt}

@@ -9,9 +9,9 @@ use Rattle.dali_record.specs.declared.records.Record.TheVariants.{Forward}
 use Rattle.dali_record.specs.Spelling.{record_length}
 use Rattle.dali_region.specs.State.{RegionState}
 use Rattle.dali_locks.specs.declared.mode.Mode.{Mode}
-use Rattle.dali_system.specs.Run.{HasRisen}
-use Rattle.dali_system.specs.State.{state_of, lock_of}
-use Rattle.dali_system.specs.Steps.{audit_record}
+use Rattle.dali_runs.specs.Run.{HasRisen}
+use Rattle.dali_runs.specs.State.{state_of, lock_of}
+use Rattle.dali_runs.specs.Steps.{audit_record}
 use Rattle.dali_transcripts.specs.Words.{StoreFailed}
 use Rattle.dali_transcripts.specs.World.{Deed, Logs, DiesOn, StartsCheckpoint, MovesAnchor, EndsCheckpoint, Meets, Happening, World, log_of, log_at, state_step, lock_step, IsNoWeaker, stray_step, stray_after, poked_step, refused_by, under_way, Grows}
 use Rattle.dali_transcripts.specs.Rounds.{room_for, ends_within, WasRight, HasLooked, PrecheckTells, AreAtOnce, HoldsTogether}

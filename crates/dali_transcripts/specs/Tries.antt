@@ -4,7 +4,7 @@
 --     ThousandTries            so it says; at the thousandth it says who is in its way, and no try follows
 use Rattle.std.specs.Prelude.{◌≡◌, ℕ, zero, suc, ◌<◌, false, List, [], ◌∷◌, ◌++◌, Option}
 use Rattle.dali_record.specs.declared.records.Call.{Call}
-use Rattle.dali_system.specs.declared.refusals.Refusal.{Refusal}
+use Rattle.dali_runs.specs.declared.refusals.Refusal.{Refusal}
 use Rattle.dali_transcripts.specs.Words.{Act, Begins, Calls, Said, Begun, Aborted, Busy}
 use Rattle.dali_transcripts.specs.World.{World, IsUncommitted, HasEndedBy}
 use Rattle.dali_transcripts.specs.Moves.{Receipt, Outside, Ending, Move, GivesWay, at, start, behind_close}

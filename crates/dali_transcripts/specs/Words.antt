@@ -11,7 +11,7 @@ use Rattle.dali_record.specs.declared.records.Call.TheVariants.{Insert, Update, 
 use Rattle.dali_record.specs.declared.records.Answer.{Answer}
 use Rattle.dali_locks.specs.declared.mode.Mode.{Mode}
 use Rattle.dali_locks.specs.declared.mode.Mode.TheVariants.{Shared, Exclusive}
-use Rattle.dali_system.specs.declared.causes.Cause.{Cause}
+use Rattle.dali_runs.specs.declared.causes.Cause.{Cause}
 
 pub data Act : Type 0 where
   Begins : Act

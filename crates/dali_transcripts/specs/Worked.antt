@@ -25,9 +25,9 @@ use Rattle.dali_record.specs.Legal.{txn_state}
 use Rattle.dali_record.specs.Blocks.{made, rewritten}
 use Rattle.dali_locks.specs.declared.mode.Mode.TheVariants.{Shared, Exclusive}
 use Rattle.dali_region.specs.State.{loaded}
-use Rattle.dali_system.specs.declared.refusals.Refusal.{Refusal}
-use Rattle.dali_system.specs.State.{CoreState, VaultState}
-use Rattle.dali_system.specs.Loads.{new_system}
+use Rattle.dali_runs.specs.declared.refusals.Refusal.{Refusal}
+use Rattle.dali_runs.specs.State.{CoreState, VaultState}
+use Rattle.dali_runs.specs.Loads.{new_system}
 use Rattle.dali_transcripts.specs.Words.{Act, Begins, Calls, Arms, Commits, Said, Begun, Answered, CommitOk, Aborted, Died}
 use Rattle.dali_transcripts.specs.World.{Logs, DiesOn, Claims, GetsLock, Yields, FindsDead, Happening, World, logged_by}
 use Rattle.dali_transcripts.specs.Transcripts.{Told, AreTranscripts}

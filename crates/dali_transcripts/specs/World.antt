@@ -30,11 +30,11 @@ use Rattle.dali_locks.specs.declared.mode.Mode.{Mode}
 use Rattle.dali_locks.specs.Locks.{stronger_mode}
 use Rattle.dali_att.specs.declared.state.State.{State}
 use Rattle.dali_att.specs.declared.state.State.TheVariants.{Live, Dead, Cleaning, Committed}
-use Rattle.dali_system.specs.declared.causes.Cause.{Cause}
-use Rattle.dali_system.specs.declared.causes.Cause.TheVariants.{Damage, Store}
-use Rattle.dali_system.specs.declared.refusals.Refusal.{Refusal}
-use Rattle.dali_system.specs.Run.{failed_first}
-use Rattle.dali_system.specs.State.{CoreState, state_of, lock_of, stable}
+use Rattle.dali_runs.specs.declared.causes.Cause.{Cause}
+use Rattle.dali_runs.specs.declared.causes.Cause.TheVariants.{Damage, Store}
+use Rattle.dali_runs.specs.declared.refusals.Refusal.{Refusal}
+use Rattle.dali_runs.specs.Run.{failed_first}
+use Rattle.dali_runs.specs.State.{CoreState, state_of, lock_of, stable}
 use Rattle.dali_transcripts.specs.Words.{Why, StoreFailed}
 
 pub data Deed : Type 0 where

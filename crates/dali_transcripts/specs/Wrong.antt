@@ -11,12 +11,12 @@ use Rattle.dali_att.specs.declared.state.State.TheVariants.{Live}
 use Rattle.dali_locks.specs.declared.mode.Mode.{Mode}
 use Rattle.dali_locks.specs.declared.mode.Mode.TheVariants.{Shared}
 use Rattle.dali_locks.specs.Locks.{both_shared}
-use Rattle.dali_system.specs.declared.causes.Cause.{Cause}
-use Rattle.dali_system.specs.declared.causes.Cause.TheVariants.{Damage}
-use Rattle.dali_system.specs.declared.refusals.Refusal.{Refusal}
-use Rattle.dali_system.specs.Run.{failed_first}
-use Rattle.dali_system.specs.State.{CoreState, state_of, lock_of, stable}
-use Rattle.dali_system.specs.Steps.{audit_record}
+use Rattle.dali_runs.specs.declared.causes.Cause.{Cause}
+use Rattle.dali_runs.specs.declared.causes.Cause.TheVariants.{Damage}
+use Rattle.dali_runs.specs.declared.refusals.Refusal.{Refusal}
+use Rattle.dali_runs.specs.Run.{failed_first}
+use Rattle.dali_runs.specs.State.{CoreState, state_of, lock_of, stable}
+use Rattle.dali_runs.specs.Steps.{audit_record}
 use Rattle.dali_transcripts.specs.Words.{Act, Calls, Commits, Audits, Checkpoints, StoppedBy, Full, Damaged, UnderWay, Why, is_stop, Said, Begun, Answered, CommitOk, Aborted, LeftOpen, Died, Busy, CheckpointSaid, Refused}
 use Rattle.dali_record.specs.Epochs.{last_epoch}
 use Rattle.dali_record.specs.Spelling.{record_length}

@@ -2,7 +2,7 @@
 use Rattle.std.proofs.Common.{◌≡◌, ℕ, ◌+◌, ◌^◌, ◌<◌, true, false, List, [], ◌∷◌, ◌++◌, Some, None, refl, ap, sym, subst, ◌∙◌, arith}
 use Rattle.std.specs.Prelude.{slice_get}
 use Rattle.std.proofs.lemmas.Option.{slice_get_within}
-use Rattle.dali_counts.proofs.Lists.{some_same}
+use Rattle.dali_runs.proofs.CountsLemmas.Lists.{some_same}
 use Rattle.dali_geometry.specs.Places.{regions}
 use Rattle.dali_record.specs.declared.operations.Block.{Block}
 use Rattle.dali_record.specs.declared.operations.Op.{Op}
@@ -18,11 +18,11 @@ use Rattle.dali_record.specs.Spelling.{Is64, IsCall, CanBeSpelled, record_length
 use Rattle.dali_record.proofs.Made.{made_is_block}
 use Rattle.dali_record.proofs.Pushes.{IsLockLegal-push}
 use Rattle.dali_region.specs.State.{RegionState}
-use Rattle.dali_system.specs.State.{SystemState, CoreState, lock_of}
-use Rattle.dali_system.specs.Run.{Bases, RunsOn, covers, holds}
-use Rattle.dali_system.specs.Keeps.{IsNext, with_system}
-use Rattle.dali_system.proofs.Logging.{no_conflict}
-use Rattle.dali_facts.specs.Plans.{AtWork}
+use Rattle.dali_runs.specs.State.{SystemState, CoreState, lock_of}
+use Rattle.dali_runs.specs.Run.{Bases, RunsOn, covers, holds}
+use Rattle.dali_runs.specs.Keeps.{IsNext, with_system}
+use Rattle.dali_runs.proofs.Logging.{no_conflict}
+use Rattle.dali_runs.specs.Facts.Plans.{AtWork}
 use Rattle.dali_crash.specs.Checkpoints.{Point}
 use Rattle.dali_calls.specs.declared.plan.Phase.TheVariants.{Calling as IsCalling}
 use Rattle.dali_calls.specs.Steps.{call_key, is_get, answer_of, IsBlockOf, IsNextBlock}
@@ -33,8 +33,8 @@ use Rattle.dali_calls.proofs.Stepping.{state_there, done_is_step, by_get}
 use Rattle.dali_calls.proofs.Following.{onward_follows}
 use Rattle.dali_calls.proofs.Wholes.{get_leaves, onward_of}
 use Rattle.dali_calls.proofs.OnKind.{next_kind}
-use Rattle.dali_core.specs.declared.want.Want.TheVariants.{Done as AnswerIsNext}
-use Rattle.dali_single.specs.Stands.{IsAtRest}
+use Rattle.dali_system.specs.declared.want.Want.TheVariants.{Done as AnswerIsNext}
+use Rattle.dali_calls.specs.Single.Stands.{IsAtRest}
 use Rattle.dali_transcripts.specs.Causes.{GoesOn as MayGoOn}
 use Rattle.dali_turns.specs.Within.{IsAtCall}
 use Rattle.dali_turns.proofs.Onward.{leads_on}

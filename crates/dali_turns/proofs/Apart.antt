@@ -6,16 +6,17 @@ use Rattle.std.proofs.lemmas.List.Elements.{Contains-append_right, filter_map-ap
 use Rattle.std.proofs.lemmas.List.Sums.{fold-append}
 use Rattle.std.proofs.lemmas.Option.{slice_get_within}
 use Rattle.dali_lists.proofs.Lists.{get_front}
-use Rattle.dali_counts.proofs.Lists.{some_same}
+use Rattle.dali_runs.proofs.CountsLemmas.Lists.{some_same}
 use Rattle.dali_geometry.specs.Places.{regions}
 use Rattle.dali_record.specs.declared.records.Record.{Record}
 use Rattle.dali_record.specs.declared.records.Record.TheVariants.{AuditBegin}
 use Rattle.dali_region.specs.State.{RegionState}
 use Rattle.dali_store.specs.Store.{Files as Disk}
-use Rattle.dali_system.specs.State.{SystemState, CoreState}
+use Rattle.dali_store.specs.declared.store.Store.{Ghosts}
+use Rattle.dali_runs.specs.State.{SystemState, CoreState}
 use Rattle.dali_crash.specs.Checkpoints.{Point}
 use Rattle.dali_crash.specs.Traces.{Start}
-use Rattle.dali_vault.specs.Vaulted.{Vaulted}
+use Rattle.dali_core.specs.Vault.Vaulted.{Vaulted}
 use Rattle.dali_audit.specs.Findings.{Audited}
 use Rattle.dali_checkpoint.specs.Kept.{Checkpointed}
 use Rattle.dali_transcripts.specs.Words.{Act}
@@ -24,7 +25,7 @@ use Rattle.dali_transcripts.specs.Moves.{Receipt}
 use Rattle.dali_transcripts.specs.Transcripts.{own_by, deeds_of}
 use Rattle.dali_transcripts.specs.Rounds.{Standing, Stands, by, AreSpans}
 use Rattle.dali_transcripts.proofs.Owned.{owned_by_one}
-use Rattle.dali_deeds.specs.Tells.{Goes}
+use Rattle.dali_transcripts.specs.Telling.Tells.{Goes}
 use Rattle.dali_turns.specs.declared.client.State.{State}
 use Rattle.dali_turns.specs.declared.client.State.TheVariants.{Auditing, Copying, Certifying}
 use Rattle.dali_turns.specs.Stood.{Stood}
@@ -57,11 +58,11 @@ log_more w more = ap (λ l. w.before ++ l) (filter_map-append record_of w.happen
 pending_there : (w : World) (a : Standing) (own : List Receipt) (x : Receipt) → a.pending ≡ own → Contains own x → Stands w a → Contains (deeds_of w a.client) x
 pending_there w a own x is there so = subst (λ l. Contains l x) (sym so.did_are) (Contains-append_right (own_by so.moves) a.pending x (subst (λ l. Contains l x) (sym is) there))
 
-module _ {V : Type 0} (told : V → Option Disk) (may_leave : V → Disk → Type 0) (faults : V → ℕ)
+module _ {V : Type 0} (means : Ghosts V)
     (s : Start) (B C : List (List Record)) (p q : Point) (w x : World) (gs hs : List RegionState) (y z : SystemState) (v u : Vaulted V) (precheck : Bool) (a b : Standing) (ds : List Deed) (yours : State)
-    (stood : Stood told may_leave faults s B p w precheck gs y v) (late : Stood told may_leave faults s C q x precheck hs z u)
-    (other : a.client ≡ b.client → ⊥) (stands : Stands w a) (theirs : Stands w b) (fits : Fits told may_leave faults s B p w gs y v b (b.spot.rest) yours)
-    (goes : Goes w b.client p ds x q) (leaves : LeavesOthers told may_leave faults yours s B p gs y v C q hs z u) where
+    (stood : Stood means s B p w precheck gs y v) (late : Stood means s C q x precheck hs z u)
+    (other : a.client ≡ b.client → ⊥) (stands : Stands w a) (theirs : Stands w b) (fits : Fits means s B p w gs y v b (b.spot.rest) yours)
+    (goes : Goes w b.client p ds x q) (leaves : LeavesOthers means yours s B p gs y v C q hs z u) where
   -- ---- an audit
   begins_apart : (n : ℕ) → Contains (deeds_of w a.client) (n, Logs AuditBegin) → Contains (deeds_of w b.client) (n, Logs AuditBegin) → ⊥
   begins_apart n mine yours = other (owned_by_one a.client b.client (length w.before) w.happened n AuditBegin AuditBegin mine yours)
@@ -72,7 +73,7 @@ module _ {V : Type 0} (told : V → Option Disk) (may_leave : V → Disk → Typ
       at_begin : (m : ℕ) → Contains (deeds_of w b.client) (m, Logs AuditBegin) → m ≡ n → ⊥
       at_begin m there same = begins_apart n mine (subst (λ i. Contains (deeds_of w b.client) (i, Logs AuditBegin)) same there)
 
-      by_state : (st : State) → Fits told may_leave faults s B p w gs y v b (b.spot.rest) st → Audits st n → ⊥
+      by_state : (st : State) → Fits means s B p w gs y v b (b.spot.rest) st → Audits st n → ⊥
       by_state (Auditing audit next) k same = at_begin audit.begin (pending_there w b ((audit.begin, Logs AuditBegin) ∷ []) (audit.begin, Logs AuditBegin) k.pending (0, omega arith, refl) theirs) same
       by_state (Certifying c audit next) k same = at_begin audit.begin (pending_there w b ((k.making.since, StartsCheckpoint) ∷ (audit.begin, Logs AuditBegin) ∷ []) (audit.begin, Logs AuditBegin) k.making.pending (1, omega arith, refl) theirs) same
       by_state state k none = none
@@ -108,12 +109,12 @@ module _ {V : Type 0} (told : V → Option Disk) (may_leave : V → Disk → Typ
       not_both : under_way w.happened ≡ Some b.client → ⊥
       not_both theirs_is = other (some_same (sym mine ∙ theirs_is))
 
-      by_state : (st : State) → Fits told may_leave faults s B p w gs y v b (b.spot.rest) st → Makes st → ⊥
+      by_state : (st : State) → Fits means s B p w gs y v b (b.spot.rest) st → Makes st → ⊥
       by_state (Copying c next) k makes = not_both k.making.under
       by_state (Certifying c audit next) k makes = not_both k.making.under
       by_state state k none = none
 
-  image_there : p.core.system.checking ≡ true → under_way w.happened ≡ Some a.client → ImageStays told may_leave faults s B p gs y v C q hs z u
+  image_there : p.core.system.checking ≡ true → under_way w.happened ≡ Some a.client → ImageStays means s B p gs y v C q hs z u
   image_there flag mine = leaves.image (ap (λ (m : SystemState). m.checking) (sym stood.stands.at.system) ∙ flag) (makes_none mine)
 
   making_still : (rest : List Act) (own : List Receipt) → IsMaking p w a rest own → IsMaking q x a rest own
@@ -142,7 +143,7 @@ module _ {V : Type 0} (told : V → Option Disk) (may_leave : V → Disk → Typ
           let no : true ≡ false = sym behind ∙ runs in
           absurd (cc)
 
-  pub copying_waits : (rest : List Act) (c : Checkpointed) (next : ℕ) → FitsCopying told may_leave faults s B p w gs y v a rest c next → FitsCopying told may_leave faults s C q x hs z u a rest c next
+  pub copying_waits : (rest : List Act) (c : Checkpointed) (next : ℕ) → FitsCopying means s B p w gs y v a rest c next → FitsCopying means s C q x hs z u a rest c next
   copying_waits rest c next k = record {
     making = making_still rest [] k.making;
     head = k.head;
@@ -152,7 +153,7 @@ module _ {V : Type 0} (told : V → Option Disk) (may_leave : V → Disk → Typ
     sound = k.sound;
   }
 
-  pub certifying_waits : (rest : List Act) (c : Checkpointed) (audit : Audited) (next : ℕ) → FitsCertifying told may_leave faults s B p w gs y v a rest c audit next → FitsCertifying told may_leave faults s C q x hs z u a rest c audit next
+  pub certifying_waits : (rest : List Act) (c : Checkpointed) (audit : Audited) (next : ℕ) → FitsCertifying means s B p w gs y v a rest c audit next → FitsCertifying means s C q x hs z u a rest c audit next
   certifying_waits rest c audit next k = record {
     making = making_still rest ((audit.begin, Logs AuditBegin) ∷ []) k.making;
     head = k.head;

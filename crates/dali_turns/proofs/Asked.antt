@@ -6,7 +6,7 @@ use Rattle.std.specs.FinMap.{get}
 use Rattle.std.proofs.lemmas.List.{append-nil}
 use Rattle.std.proofs.lemmas.List.Elements.{Contains-push}
 use Rattle.dali_lists.proofs.Members.{all_map, all_append}
-use Rattle.dali_counts.proofs.Lists.{equal, same_number, some_same}
+use Rattle.dali_runs.proofs.CountsLemmas.Lists.{equal, same_number, some_same}
 use Rattle.dali_record.specs.declared.operations.Pending.{Pending}
 use Rattle.dali_record.specs.declared.records.Call.{Call}
 use Rattle.dali_record.specs.declared.records.Call.TheVariants.{Insert, Update, Delete, Get}
@@ -21,17 +21,18 @@ use Rattle.dali_locks.specs.Locks.{Locks as LockMap, stronger_mode, locks_with}
 use Rattle.dali_locks.proofs.Changes.{get-locks_with}
 use Rattle.dali_att.specs.declared.state.State.TheVariants.{Live}
 use Rattle.dali_store.specs.Store.{Files as Disk}
-use Rattle.dali_system.specs.State.{SystemState, CoreState, state_of, lock_of}
-use Rattle.dali_system.specs.Steps.{granted}
-use Rattle.dali_system.specs.Courses.{Locks}
+use Rattle.dali_store.specs.declared.store.Store.{Ghosts}
+use Rattle.dali_runs.specs.State.{SystemState, CoreState, state_of, lock_of}
+use Rattle.dali_runs.specs.Steps.{granted}
+use Rattle.dali_runs.specs.Courses.{Locks}
 use Rattle.dali_crash.specs.Checkpoints.{Point}
 use Rattle.dali_crash.specs.Traces.{Start, bases_of}
-use Rattle.dali_vault.specs.Vaulted.{Vaulted}
+use Rattle.dali_core.specs.Vault.Vaulted.{Vaulted}
 use Rattle.dali_calls.specs.declared.plan.Phase.TheVariants.{Calling as IsCalling}
 use Rattle.dali_calls.specs.Steps.{call_key, answer_of}
 use Rattle.dali_calls.specs.Plans.{Planned, goes_back, mode_of}
-use Rattle.dali_single.specs.Stands.{core}
-use Rattle.dali_stepwise.specs.Stepwise.{IsAsked}
+use Rattle.dali_calls.specs.Single.Stands.{core}
+use Rattle.dali_calls.specs.Stepwise.Stepwise.{IsAsked}
 use Rattle.dali_transcripts.specs.Words.{Act, Calls, key_of}
 use Rattle.dali_transcripts.specs.Words as words
 use Rattle.dali_transcripts.specs.World.{Deed, Logs, GetsLock, Happening, World, log_of, lock_after, IsNoWeaker, state_after, state_at}
@@ -40,8 +41,8 @@ use Rattle.dali_transcripts.specs.Causes.{IsAsking, IsWork, AreAsking, AreWork, 
 use Rattle.dali_transcripts.specs.Rounds.{Standing, IsPlaced}
 use Rattle.dali_transcripts.proofs.Grants.{idle_granted}
 use Rattle.dali_transcripts.proofs.Growing.{askings}
-use Rattle.dali_deeds.specs.Tells.{after}
-use Rattle.dali_clients.specs.Told.{act_of}
+use Rattle.dali_transcripts.specs.Telling.Tells.{after}
+use Rattle.dali_transcripts.specs.Clients.Told.{act_of}
 use Rattle.dali_turns.specs.declared.client.Client.{Client}
 use Rattle.dali_turns.specs.declared.client.State.{State}
 use Rattle.dali_turns.specs.declared.client.State.TheVariants.{Within, Calling}
@@ -57,7 +58,7 @@ use Rattle.dali_turns.proofs.Refusals.{front, runs_there, says_none}
 use Rattle.dali_turns.proofs.Locking.{got_more, weaker_shared}
 use Rattle.dali_turns.proofs.Doing.{Did, did_quietly, behind, went_on, vault_stops}
 use Rattle.dali_turns.proofs.Walking.{point_behind}
-use Rattle.dali_rounds.specs.Went.{is_open}
+use Rattle.dali_transactions.specs.Beside.Went.{is_open}
 
 -- ---- words of calls
 pub same_key : (call : Call) → call_key call ≡ key_of call
@@ -125,9 +126,9 @@ pub left_none : (d : Option ℕ) → left d 0 ≡ d
 left_none None = refl
 left_none (Some d) = ap Some (omega arith)
 
-module _ {V : Type 0} (told : V → Option Disk) (may_leave : V → Disk → Type 0) (faults : V → ℕ)
+module _ {V : Type 0} (means : Ghosts V)
     (precheck : Bool) (s : Start) (B : List (List Record)) (p : Point) (w : World) (a : Standing) (gs : List RegionState) (y z : SystemState) (v : Vaulted V) (k j : Client)
-    (x : Transaction) (plan : Planned) (call : Call) (more : List Act) (stood : Stood told may_leave faults s B p w precheck gs y v) (is : IsOf w a k) (fits : FitsWithin p w a (rest_of k) x)
+    (x : Transaction) (plan : Planned) (call : Call) (more : List Act) (stood : Stood means s B p w precheck gs y v) (is : IsOf w a k) (fits : FitsWithin p w a (rest_of k) x)
     (next : rest_of k ≡ Calls call ∷ more) (of_txn : plan.txn ≡ x.txn) (of_call : plan.call ≡ call) (calling : plan.phase ≡ IsCalling) (fresh : plan.changes ≡ [])
     (asked : IsAsked Granted p.log p.core plan (core p.core.regions z p.core.vault)) (system : z ≡ granted y plan.txn (call_key plan.call) (mode_of plan.call)) (runs : y.stop ≡ None) where
   abbrev q : Point
@@ -164,10 +165,10 @@ module _ {V : Type 0} (told : V → Option Disk) (may_leave : V → Disk → Typ
       ∙ (sym (stood.tells.together.states plan.txn) ∙ (ap (λ (c : CoreState). state_of c.system plan.txn) stood.tells.core ∙ (ap (state_of p.core.system) of_txn ∙ fits.lives)))
 
   right : IsRight now a.client (length w.happened) deed
-  right = (lives_then, runs_there (bases_of s) s.log w a.client p stood.stands.at.vault.run stood.tells (vault_stops told may_leave faults precheck s B p w gs y v stood) deed q.core (ap (λ (m : SystemState). m.stop) stood.stands.at.system ∙ runs), free)
+  right = (lives_then, runs_there (bases_of s) s.log w a.client p stood.stands.at.vault.run stood.tells (vault_stops means precheck s B p w gs y v stood) deed q.core (ap (λ (m : SystemState). m.stop) stood.stands.at.system ∙ runs), free)
 
-  did : Did told may_leave faults precheck s B p w a.client (Within x) gs y v (deed ∷ []) B q gs z v
-  did = did_quietly told may_leave faults precheck s B p w gs y v stood a.client (Within x) q (Locks plan.txn (call_key plan.call) (mode_of plan.call)) (deed ∷ []) z gs refl (refl, (asked.0, refl), refl) (inr refl) (right, tt) refl stood.stands.at.regions
+  did : Did means precheck s B p w a.client (Within x) gs y v (deed ∷ []) B q gs z v
+  did = did_quietly means precheck s B p w gs y v stood a.client (Within x) q (Locks plan.txn (call_key plan.call) (mode_of plan.call)) (deed ∷ []) z gs refl (refl, (asked.0, refl), refl) (inr refl) (right, tt) refl stood.stands.at.regions
       (ap (λ (m : SystemState). m.taken) system) stood.stands.dead (λ fs held. held)
       (subst IsQuiet (sym system) (record { unclaimed = stood.quiet.unclaimed })) (λ e. ap (λ (m : SystemState). is_some m.stop) system ∙ e)
       (λ t lives other. apart_from plan.txn t (λ e. other (sym of_txn ∙ e))) (λ b other. refl)
@@ -191,10 +192,10 @@ module _ {V : Type 0} (told : V → Option Disk) (may_leave : V → Disk → Typ
       (Contains-push w.happened (deed, a.client)))
       (had_or_got y.locks plan.txn (call_key plan.call) (mode_of plan.call) x.txn n m (ap (λ (j : SystemState). lock_of j x.txn n) (sym system) ∙ has))
 
-  pub granted_on : Stays k (Calling x plan) j → Went told may_leave faults precheck s B p w a (Within x) gs y v true j gs z v
+  pub granted_on : Stays k (Calling x plan) j → Went means precheck s B p w a (Within x) gs y v true j gs z v
   granted_on f =
-      went_on told may_leave faults precheck s B B p q w a (Within x) gs gs y z v v (deed ∷ []) k j is did true f.transcript
-      (subst (λ (n : State). Fits told may_leave faults s B q now gs z v (behind a w (deed ∷ [])) (rest_of j) n) (sym f.stands) fitting)
+      went_on means precheck s B B p q w a (Within x) gs gs y z v v (deed ∷ []) k j is did true f.transcript
+      (subst (λ (n : State). Fits means s B q now gs z v (behind a w (deed ∷ [])) (rest_of j) n) (sym f.stands) fitting)
       (λ e. rows)
     where
       same_rest : rest_of j ≡ rest_of k

@@ -5,25 +5,25 @@ use Rattle.std.proofs.lemmas.Result.{on_ok_weaker}
 use Rattle.dali_bytes.specs.declared.error.OutOfMemory.{OutOfMemory as NoMemory}
 use Rattle.dali_region.specs.State.{RegionState}
 use Rattle.dali_region.specs.declared.LatchError.TheVariants.{Latched, DeadHolder, Damaged}
-use Rattle.dali_system.specs.State.{SystemState}
-use Rattle.dali_system.specs.declared.causes.Cause.{Cause}
-use Rattle.dali_core.specs.Refused.{stop_of}
-use Rattle.dali_core.specs.declared.error.SystemError.{SystemError}
-use Rattle.dali_core.specs.declared.error.SystemError.TheVariants.{Stopped, LogFull, OutOfMemory}
+use Rattle.dali_runs.specs.State.{SystemState}
+use Rattle.dali_runs.specs.declared.causes.Cause.{Cause}
+use Rattle.dali_system.specs.Refused.{stop_of}
+use Rattle.dali_system.specs.declared.error.SystemError.{SystemError}
+use Rattle.dali_system.specs.declared.error.SystemError.TheVariants.{Stopped, LogFull, OutOfMemory}
 use Rattle.dali_audit.specs.Findings.{Audited}
 use Rattle.dali_calls.specs.Plans.{Planned}
 use Rattle.dali_checkpoint.specs.declared.error.CheckpointError.{CheckpointError}
 use Rattle.dali_checkpoint.specs.declared.error.CheckpointError.TheVariants.{InProgress as IsRunning, Failed, Stopped as IsHalted, LogFull as HasNoRoom, Fault, OutOfMemory as WantsMemory}
 use Rattle.dali_checkpoint.specs.Kept.{Checkpointed}
 use Rattle.dali_checkpoint.specs.Making.{checkpoint_error}
-use Rattle.dali_single.specs.declared.error.StepError.{StepError}
-use Rattle.dali_single.specs.declared.error.StepError.TheVariants.{Latch, System}
-use Rattle.dali_clients.specs.declared.command.Command.{Command}
-use Rattle.dali_clients.specs.declared.command.Command.TheVariants.{Begin, Call, Commit, Abort, Audit, Checkpoint}
-use Rattle.dali_clients.specs.declared.line.Line.{Line}
-use Rattle.dali_clients.specs.declared.line.Line.TheVariants.{CommitOk, LeftOpen, Refused}
-use Rattle.dali_clients.specs.declared.line.Why.{Why}
-use Rattle.dali_clients.specs.declared.line.Why.TheVariants.{InProgress, Stopped as IsStopped, LogFull as IsFull, StoreStopped}
+use Rattle.dali_calls.specs.declared.single.error.StepError.{StepError}
+use Rattle.dali_calls.specs.declared.single.error.StepError.TheVariants.{Latch, System}
+use Rattle.dali_transcripts.specs.declared.clients.command.Command.{Command}
+use Rattle.dali_transcripts.specs.declared.clients.command.Command.TheVariants.{Begin, Call, Commit, Abort, Audit, Checkpoint}
+use Rattle.dali_transcripts.specs.declared.clients.line.Line.{Line}
+use Rattle.dali_transcripts.specs.declared.clients.line.Line.TheVariants.{CommitOk, LeftOpen, Refused}
+use Rattle.dali_transcripts.specs.declared.clients.line.Why.{Why}
+use Rattle.dali_transcripts.specs.declared.clients.line.Why.TheVariants.{InProgress, Stopped as IsStopped, LogFull as IsFull, StoreStopped}
 use Rattle.dali_turns.specs.declared.client.Client.{Client}
 use Rattle.dali_turns.specs.declared.client.State.{State}
 use Rattle.dali_turns.specs.declared.client.State.TheVariants.{Outside, Within, Calling, TakingBack, Committing, Waiting, Auditing, Copying, Certifying}

@@ -4,11 +4,12 @@ use Rattle.std.proofs.lemmas.List.{append-nil}
 use Rattle.dali_record.specs.declared.records.Record.{Record}
 use Rattle.dali_region.specs.State.{RegionState}
 use Rattle.dali_store.specs.Store.{Files as Disk}
-use Rattle.dali_system.specs.State.{SystemState, log_after}
-use Rattle.dali_system.specs.Steps.{audit_ended}
+use Rattle.dali_store.specs.declared.store.Store.{Ghosts}
+use Rattle.dali_runs.specs.State.{SystemState, log_after}
+use Rattle.dali_runs.specs.Steps.{audit_ended}
 use Rattle.dali_crash.specs.Traces.{Start}
-use Rattle.dali_vault.specs.Vaulted.{Vaulted}
-use Rattle.dali_whole.specs.Moments.{Within, FlushLeaves}
+use Rattle.dali_core.specs.Vault.Vaulted.{Vaulted}
+use Rattle.dali_core.specs.Moments.{Within, FlushLeaves}
 use Rattle.dali_audit.specs.Findings.{Audited, damaged}
 use Rattle.dali_turns.specs.declared.client.Client.{Client}
 use Rattle.dali_turns.specs.declared.client.State.TheVariants.{Auditing}
@@ -21,18 +22,18 @@ use Rattle.dali_turns.proofs.Moments.{leaves_behind}
 pub extends_here : (s : Start) (x z : SystemState) (log : List Record) → log ≡ log_after s.log x → z.since ≡ x.since → Extends s z log
 extends_here s x z log is since = ([], append-nil log ∙ (is ∙ ap (λ l. s.log ++ l) (sym since)))
 
-module _ {V : Type 0} (told : V → Option Disk) (may_leave : V → Disk → Type 0) (faults : V → ℕ) (moment : V → ℕ) (left_since : V → ℕ → Disk → Type 0)
+module _ {V : Type 0} (means : Ghosts V)
     (k : Client) (gs : List RegionState) (y z : SystemState) (v u : Vaulted V) (audit : Audited) (next : ℕ) where
   pub end_leaves : length gs ≤ next → y.stop ≡ None → (x : SystemState) → x ≡ audit_ended y audit.begin (damaged audit.findings) → (v.stopped ≡ false → z.since ≡ x.since)
-      → (v.stopped ≡ false → Within told moment left_since v u (FlushLeaves may_leave x v)) → StepLeavesRight told may_leave faults moment left_since (Auditing audit next) k gs y v z u
+      → (v.stopped ≡ false → Within means.told means.moment means.left_since v u (FlushLeaves means.may_leave x v)) → StepLeavesRight means (Auditing audit next) k gs y v z u
   end_leaves all stop x logs since within precheck s B p w a stood of fits =
-      let d = did_end told may_leave faults precheck s B p w gs y v stood a.client (Auditing audit next) audit next fits.passing (λ b other. other) all stop in
-      let runs = vault_is told may_leave faults precheck s B p w gs y v stood a.client (Auditing audit next) audit next fits.passing (λ b other. other) all stop in
-      leaves_behind told may_leave faults moment left_since (Auditing audit next) k gs y z v u (FlushLeaves may_leave (audit_ended y audit.begin (damaged audit.findings)) v)
-      (subst (λ (m : SystemState). Within told moment left_since v u (FlushLeaves may_leave m v)) logs (within runs)) s p (record {
+      let d = did_end means precheck s B p w gs y v stood a.client (Auditing audit next) audit next fits.passing (λ b other. other) all stop in
+      let runs = vault_is means precheck s B p w gs y v stood a.client (Auditing audit next) audit next fits.passing (λ b other. other) all stop in
+      leaves_behind means (Auditing audit next) k gs y z v u (FlushLeaves means.may_leave (audit_ended y audit.begin (damaged audit.findings)) v)
+      (subst (λ (m : SystemState). Within means.told means.moment means.left_since v u (FlushLeaves means.may_leave m v)) logs (within runs)) s p (record {
         to = ended_point p audit.begin (damaged audit.findings);
         steps = d.steps;
         course = d.course;
         log = extends_here s (audit_ended y audit.begin (damaged audit.findings)) z _ (d.stood.stands.at.vault.run.run.log ∙ ap (log_after s.log) d.stood.stands.at.system) (since runs ∙ ap (λ (m : SystemState). m.since) logs);
-        right = flush_leaves told may_leave faults s B (ended_point p audit.begin (damaged audit.findings)) gs (audit_ended y audit.begin (damaged audit.findings)) v d.stood.stands.at runs;
+        right = flush_leaves means s B (ended_point p audit.begin (damaged audit.findings)) gs (audit_ended y audit.begin (damaged audit.findings)) v d.stood.stands.at runs;
       })

@@ -4,29 +4,30 @@ use Rattle.std.specs.Prelude.{◌||◌, ◌==◌, nat_lt, slice_get, slice_set}
 use Rattle.std.proofs.lemmas.Bool.{ltb-false, ltb-true, ne_eqb}
 use Rattle.std.proofs.lemmas.Option.{slice_get_within}
 use Rattle.std.proofs.lemmas.List.{length-replicate}
-use Rattle.dali_counts.proofs.Lists.{self, some_same}
+use Rattle.dali_runs.proofs.CountsLemmas.Lists.{self, some_same}
 use Rattle.dali_geometry.specs.Places.{regions}
 use Rattle.dali_record.specs.declared.records.Record.{Record}
 use Rattle.dali_record.specs.declared.records.Record.TheVariants.{AuditBegin}
 use Rattle.dali_region.specs.State.{RegionState, checked}
 use Rattle.dali_store.specs.Store.{Files as Disk}
-use Rattle.dali_system.specs.declared.causes.Cause.{Cause}
+use Rattle.dali_store.specs.declared.store.Store.{Ghosts}
+use Rattle.dali_runs.specs.declared.causes.Cause.{Cause}
 use Rattle.std.specs.FinMap as map
 use Rattle.dali_lists.proofs.Lists.{get_push}
-use Rattle.dali_system.specs.State.{SystemState, state_in}
-use Rattle.dali_system.specs.Steps.{audit_begun}
-use Rattle.dali_system.specs.Keeps.{with_system, with_region}
-use Rattle.dali_system.specs.Passes.{audits_with}
-use Rattle.dali_system.specs.Audits.{IsAuditing}
-use Rattle.dali_system.specs.Courses.{AuditBegins, Passes, IsStepAt, pass_now}
-use Rattle.dali_system.proofs.OpenAudits.{audit_starts}
-use Rattle.dali_core.specs.declared.error.SystemError.{SystemError}
-use Rattle.dali_core.specs.declared.error.SystemError.TheVariants.{Stopped, LogFull, OutOfMemory}
-use Rattle.dali_core.specs.Refused.{room_of}
-use Rattle.dali_core.specs.Audits.{audit_refusal}
+use Rattle.dali_runs.specs.State.{SystemState, state_in}
+use Rattle.dali_runs.specs.Steps.{audit_begun}
+use Rattle.dali_runs.specs.Keeps.{with_system, with_region}
+use Rattle.dali_runs.specs.Passes.{audits_with}
+use Rattle.dali_runs.specs.Audits.{IsAuditing}
+use Rattle.dali_runs.specs.Courses.{AuditBegins, Passes, IsStepAt, pass_now}
+use Rattle.dali_runs.proofs.OpenAudits.{audit_starts}
+use Rattle.dali_system.specs.declared.error.SystemError.{SystemError}
+use Rattle.dali_system.specs.declared.error.SystemError.TheVariants.{Stopped, LogFull, OutOfMemory}
+use Rattle.dali_system.specs.Refused.{room_of}
+use Rattle.dali_system.specs.Audits.{audit_refusal}
 use Rattle.dali_crash.specs.Checkpoints.{Does, Point, IsPointStep, copies_after, moment_of}
 use Rattle.dali_crash.specs.Traces.{Start, bases_of}
-use Rattle.dali_vault.specs.Vaulted.{Vaulted}
+use Rattle.dali_core.specs.Vault.Vaulted.{Vaulted}
 use Rattle.dali_audit.specs.declared.audit.Finding.{Finding}
 use Rattle.dali_audit.specs.declared.audit.Finding.TheVariants.{Waiting}
 use Rattle.dali_audit.specs.Findings.{Audited, finding_of}
@@ -39,12 +40,12 @@ use Rattle.dali_transcripts.specs.Moves.{Receipt, Outside as IsOutside, Spot, at
 use Rattle.dali_transcripts.specs.Causes.{IsCutBy, MetCause, AreUnfinished}
 use Rattle.dali_transcripts.specs.Laws.{receipts_from}
 use Rattle.dali_transcripts.specs.Rounds.{Standing, IsPlaced}
-use Rattle.dali_deeds.specs.Deeds.{BeganHere}
-use Rattle.dali_deeds.specs.Tells.{after}
-use Rattle.dali_deeds.specs.Laws.{IsNoFault}
-use Rattle.dali_clients.specs.declared.line.Why.{Why}
-use Rattle.dali_clients.specs.declared.line.Why.TheVariants.{Stopped as IsStopped, LogFull as IsFull}
-use Rattle.dali_clients.specs.Told.{reason_of}
+use Rattle.dali_transcripts.specs.Telling.Deeds.{BeganHere}
+use Rattle.dali_transcripts.specs.Telling.Tells.{after}
+use Rattle.dali_transcripts.specs.Telling.Laws.{IsNoFault}
+use Rattle.dali_transcripts.specs.declared.clients.line.Why.{Why}
+use Rattle.dali_transcripts.specs.declared.clients.line.Why.TheVariants.{Stopped as IsStopped, LogFull as IsFull}
+use Rattle.dali_transcripts.specs.Clients.Told.{reason_of}
 use Rattle.dali_checkpoint.proofs.Whole.{none_found}
 use Rattle.dali_turns.specs.declared.client.Client.{Client}
 use Rattle.dali_turns.specs.declared.client.State.{State}
@@ -58,7 +59,7 @@ use Rattle.dali_turns.specs.Goes.{RowsTell, Went}
 use Rattle.dali_turns.proofs.Refusals.{records_are, runs_on_log, HasCauseNow, met_now, right_now, full_audit, stop_now, runs_there, full_now, may_say_more, says_none}
 use Rattle.dali_turns.proofs.Passing.{passed, dead_checked, places_checked, passed_one}
 use Rattle.dali_turns.proofs.Doing.{vault_stops, Did, did_nothing, did_meet, did_quietly, behind, ended, outside_by, went_on, went_by, went_silent}
-use Rattle.dali_rounds.specs.Went.{is_open}
+use Rattle.dali_transactions.specs.Beside.Went.{is_open}
 
 get_same : {X : Type 0} (n r : ℕ) (x : X) → r < n → slice_get (replicate n x) r ≡ Some x
 get_same zero r x less = absurd (omega (arith, less))
@@ -117,8 +118,8 @@ begun_point p = record p {
   copies = copies_after p.core AuditBegins p.copies;
 }
 
-module _ {V : Type 0} (told : V → Option Disk) (may_leave : V → Disk → Type 0) (faults : V → ℕ)
-    (precheck : Bool) (s : Start) (B : List (List Record)) (p : Point) (w : World) (gs : List RegionState) (y : SystemState) (v : Vaulted V) (stood : Stood told may_leave faults s B p w precheck gs y v)
+module _ {V : Type 0} (means : Ghosts V)
+    (precheck : Bool) (s : Start) (B : List (List Record)) (p : Point) (w : World) (gs : List RegionState) (y : SystemState) (v : Vaulted V) (stood : Stood means s B p w precheck gs y v)
     (c : ℕ) (state : State) where
   pub numbers : y.records ≡ length (log_of w)
   numbers = ap (λ (z : SystemState). z.records) (sym stood.stands.at.system) ∙ records_are (bases_of s) s.log w p stood.stands.at.vault.run stood.tells
@@ -133,9 +134,9 @@ module _ {V : Type 0} (told : V → Option Disk) (may_leave : V → Disk → Typ
     pub begun_step : IsPointStep p (Does AuditBegins) (begun_point p)
     begun_step = (refl, ((stop_there, room_there, (refl, refl)), refl), refl)
 
-    pub did_begin : Did told may_leave faults precheck s B p w c state gs y v (Logs AuditBegin ∷ []) B (begun_point p) gs (audit_begun y) v
-    did_begin = did_quietly told may_leave faults precheck s B p w gs y v stood c state (begun_point p) AuditBegins (Logs AuditBegin ∷ []) (audit_begun y) gs refl begun_step refl
-        (runs_there (bases_of s) s.log w c p stood.stands.at.vault.run stood.tells (vault_stops told may_leave faults precheck s B p w gs y v stood) (Logs AuditBegin) (begun_point p).core stop_there, tt)
+    pub did_begin : Did means precheck s B p w c state gs y v (Logs AuditBegin ∷ []) B (begun_point p) gs (audit_begun y) v
+    did_begin = did_quietly means precheck s B p w gs y v stood c state (begun_point p) AuditBegins (Logs AuditBegin ∷ []) (audit_begun y) gs refl begun_step refl
+        (runs_there (bases_of s) s.log w c p stood.stands.at.vault.run stood.tells (vault_stops means precheck s B p w gs y v stood) (Logs AuditBegin) (begun_point p).core stop_there, tt)
         (ap audit_begun stood.stands.at.system) stood.stands.at.regions
         refl stood.stands.dead (λ fs held. held) (record { unclaimed = stood.quiet.unclaimed }) (λ e. e) (λ t lives other. refl) (λ b other. refl)
 
@@ -163,9 +164,9 @@ module _ {V : Type 0} (told : V → Option Disk) (may_leave : V → Disk → Typ
         few = omega (arith, ap length findings, length-replicate (regions y.sizes) Waiting, few);
       }
 
-module _ {V : Type 0} (told : V → Option Disk) (may_leave : V → Disk → Type 0) (faults : V → ℕ)
+module _ {V : Type 0} (means : Ghosts V)
     (precheck : Bool) (s : Start) (B : List (List Record)) (p : Point) (w : World) (a : Standing) (gs : List RegionState) (y : SystemState) (v : Vaulted V) (k j : Client)
-    (stood : Stood told may_leave faults s B p w precheck gs y v) (is : IsOf w a k) where
+    (stood : Stood means s B p w precheck gs y v) (is : IsOf w a k) where
   -- ---- the begin of a client's own
   module _ (fits : FitsOutside y a (rest_of k)) (more : List Act) (next : rest_of k ≡ AuditAct ∷ more) where
     module _ (stop : y.stop ≡ None) (room : y.end + 1 ≤ y.limit + 1048576) (audit : Audited) (begin : audit.begin ≡ y.records) (findings : audit.findings ≡ replicate (regions y.sizes) Waiting) (small : y.records < 2 ^ 64) (few : regions y.sizes < 2 ^ 32) where
@@ -175,16 +176,16 @@ module _ {V : Type 0} (told : V → Option Disk) (may_leave : V → Disk → Typ
       abbrev here : World
       here = after w a.client (Logs AuditBegin ∷ []) (begun_point p).core
 
-      pub begins : j.transcript ≡ k.transcript → rest_of j ≡ rest_of k → j.state ≡ Auditing audit 0 → Went told may_leave faults precheck s B p w a Outside gs y v true j gs (audit_begun y) v
+      pub begins : j.transcript ≡ k.transcript → rest_of j ≡ rest_of k → j.state ≡ Auditing audit 0 → Went means precheck s B p w a Outside gs y v true j gs (audit_begun y) v
       begins same rest state =
-          went_on told may_leave faults precheck s B B p (begun_point p) w a Outside gs gs y (audit_begun y) v v (Logs AuditBegin ∷ []) k j is (did_begin told may_leave faults precheck s B p w gs y v stood a.client Outside stop room) true same
-          (subst (λ (x : State). Fits told may_leave faults s B (begun_point p) here gs (audit_begun y) v (behind a w (Logs AuditBegin ∷ [])) (rest_of j) x) (sym state) (record {
+          went_on means precheck s B B p (begun_point p) w a Outside gs gs y (audit_begun y) v v (Logs AuditBegin ∷ []) k j is (did_begin means precheck s B p w gs y v stood a.client Outside stop room) true same
+          (subst (λ (x : State). Fits means s B (begun_point p) here gs (audit_begun y) v (behind a w (Logs AuditBegin ∷ [])) (rest_of j) x) (sym state) (record {
             more = more;
             audits = rest ∙ next;
             spot = fits.spot ∙ (ap (λ (b : Bool). at (IsOutside b) (rest_of k)) silent ∙ ap (at (IsOutside false)) (sym rest));
-            pending = ap (λ xs. xs ++ (length (log_of w), Logs AuditBegin) ∷ []) fits.none ∙ ap (λ (n : ℕ). (n, Logs AuditBegin) ∷ []) (sym (numbers told may_leave faults precheck s B p w gs y v stood a.client Outside) ∙ sym begin);
+            pending = ap (λ xs. xs ++ (length (log_of w), Logs AuditBegin) ∷ []) fits.none ∙ ap (λ (n : ℕ). (n, Logs AuditBegin) ∷ []) (sym (numbers means precheck s B p w gs y v stood a.client Outside) ∙ sym begin);
             placed = subst (IsPlaced false) (sym rest) fits.placed;
-            passing = begun_passing told may_leave faults precheck s B p w gs y v stood a.client Outside stop room audit begin findings small few;
+            passing = begun_passing means precheck s B p w gs y v stood a.client Outside stop room audit begin findings small few;
           }))
           (λ e. rows_same Outside j.state y (audit_begun y) refl (λ t h. h))
 
@@ -198,21 +199,21 @@ module _ {V : Type 0} (told : V → Option Disk) (may_leave : V → Disk → Typ
     pub refusal : (why : Why) → RefusesAudit y why → Refusal (reason_of why)
     refusal why (inl h) = subst (λ (x : Why). Refusal (reason_of x)) (sym h.1) (record {
       no_fault = tt;
-      cause = stop_now (bases_of s) s.log w a.client p stood.stands.at.vault.run stood.tells (vault_stops told may_leave faults precheck s B p w gs y v stood) AuditAct None h.0 tt (ap (λ (z : SystemState). z.stop) stood.stands.at.system ∙ h.2);
+      cause = stop_now (bases_of s) s.log w a.client p stood.stands.at.vault.run stood.tells (vault_stops means precheck s B p w gs y v stood) AuditAct None h.0 tt (ap (λ (z : SystemState). z.stop) stood.stands.at.system ∙ h.2);
       stops = λ e. ap is_some h.2;
       cut = λ u. tt;
     })
     refusal why (inr h) = subst (λ (x : Why). Refusal (reason_of x)) (sym h.0) (record {
       no_fault = tt;
       cause = subst (λ (z : SystemState). HasCauseNow w a.client p.core AuditAct None (full_audit z)) stood.stands.at.system
-          (full_now (bases_of s) s.log w a.client p stood.stands.at.vault.run stood.tells (vault_stops told may_leave faults precheck s B p w gs y v stood) (ap (λ (z : SystemState). z.stop) stood.stands.at.system ∙ h.2) (subst (λ (z : SystemState). z.limit + 1048576 < z.end + 1) (sym stood.stands.at.system) h.1));
+          (full_now (bases_of s) s.log w a.client p stood.stands.at.vault.run stood.tells (vault_stops means precheck s B p w gs y v stood) (ap (λ (z : SystemState). z.stop) stood.stands.at.system ∙ h.2) (subst (λ (z : SystemState). z.limit + 1048576 < z.end + 1) (sym stood.stands.at.system) h.1));
       stops = λ e. absurd (cc);
       cut = λ u. refl;
     })
 
     module _ (r : Reason) (h : Refusal r) where
-      met_did : Did told may_leave faults precheck s B p w a.client Outside gs y v (Meets r ∷ []) B p gs y v
-      met_did = did_meet told may_leave faults precheck s B p w gs y v stood a.client Outside r h.no_fault (right_now w a.client p.core AuditAct None r h.cause)
+      met_did : Did means precheck s B p w a.client Outside gs y v (Meets r ∷ []) B p gs y v
+      met_did = did_meet means precheck s B p w gs y v stood a.client Outside r h.no_fault (right_now w a.client p.core AuditAct None r h.cause)
 
       met : MetCause (after w a.client (Meets r ∷ []) p.core) a.client (length (log_of w)) AuditAct None r
       met = met_now w a.client p.core AuditAct None r h.cause
@@ -229,19 +230,19 @@ module _ {V : Type 0} (told : V → Option Disk) (may_leave : V → Disk → Typ
       placed : IsPlaced false more
       placed = subst (IsPlaced false) next fits.placed
 
-      pub refused_begin : j.transcript.client ≡ k.transcript.client → lines_of j ≡ lines_of k ++ Refused AuditAct r ∷ [] → rest_of j ≡ more → j.state ≡ Outside → Went told may_leave faults precheck s B p w a Outside gs y v true j gs y v
+      pub refused_begin : j.transcript.client ≡ k.transcript.client → lines_of j ≡ lines_of k ++ Refused AuditAct r ∷ [] → rest_of j ≡ more → j.state ≡ Outside → Went means precheck s B p w a Outside gs y v true j gs y v
       refused_begin client lines rest state =
-          went_by told may_leave faults precheck s B B p p w a Outside gs gs y y v v (Meets r ∷ []) k j is met_did move starts own_is (h.cut (after w a.client (Meets r ∷ []) p.core), met) client lines
-          (subst (λ (x : State). Fits told may_leave faults s B p (after w a.client (Meets r ∷ []) p.core) gs y v (ended a move) (rest_of j) x) (sym state) (outside_by y a move (fits.said || is_stop r) more (rest_of j) rest (may_say_more y fits.said r fits.may h.stops) refl placed))
+          went_by means precheck s B B p p w a Outside gs gs y y v v (Meets r ∷ []) k j is met_did move starts own_is (h.cut (after w a.client (Meets r ∷ []) p.core), met) client lines
+          (subst (λ (x : State). Fits means s B p (after w a.client (Meets r ∷ []) p.core) gs y v (ended a move) (rest_of j) x) (sym state) (outside_by y a move (fits.said || is_stop r) more (rest_of j) rest (may_say_more y fits.said r fits.may h.stops) refl placed))
           (rows_same Outside j.state y y refl (λ t none. none))
 
-      pub silent_begin : j.transcript ≡ k.transcript → Went told may_leave faults precheck s B p w a Outside gs y v false j gs y v
-      silent_begin same = went_silent told may_leave faults precheck s B B p p w a Outside gs gs y y v v (Meets r ∷ []) k j is met_did move starts own_is (h.cut (after w a.client (Meets r ∷ []) p.core), met) same
+      pub silent_begin : j.transcript ≡ k.transcript → Went means precheck s B p w a Outside gs y v false j gs y v
+      silent_begin same = went_silent means precheck s B B p p w a Outside gs gs y y v v (Meets r ∷ []) k j is met_did move starts own_is (h.cut (after w a.client (Meets r ∷ []) p.core), met) same
 
     -- memory for it was refused
-    pub no_begin : j.transcript ≡ k.transcript → Went told may_leave faults precheck s B p w a Outside gs y v false j gs y v
+    pub no_begin : j.transcript ≡ k.transcript → Went means precheck s B p w a Outside gs y v false j gs y v
     no_begin same =
-        went_on told may_leave faults precheck s B B p p w a Outside gs gs y y v v [] k j is (did_nothing told may_leave faults precheck s B p w gs y v stood a.client Outside) false same
+        went_on means precheck s B B p p w a Outside gs gs y y v v [] k j is (did_nothing means precheck s B p w gs y v stood a.client Outside) false same
         (inl (refl, unfinished (a.pending ++ []) (ap (λ xs. xs ++ []) fits.none) a.spot (fits.spot ∙ ap (at (IsOutside fits.said)) next)))
         (λ e. absurd (cc))
       where
@@ -272,15 +273,15 @@ module _ {V : Type 0} (told : V → Option Disk) (may_leave : V → Disk → Typ
     is_own : (b : ℕ) → (audit.begin ≡ b → ⊥) → (audit.begin == b) ≡ false
     is_own b other = ne_eqb audit.begin b other
 
-    pass_did : Did told may_leave faults precheck s B p w a.client (Auditing audit next) gs y v [] B passed_point (slice_set gs next (checked g)) y v
-    pass_did = did_quietly told may_leave faults precheck s B p w gs y v stood a.client (Auditing audit next) passed_point (Passes audit.begin next) [] y (slice_set gs next (checked g)) refl (refl, pass.0, refl) refl tt
+    pass_did : Did means precheck s B p w a.client (Auditing audit next) gs y v [] B passed_point (slice_set gs next (checked g)) y v
+    pass_did = did_quietly means precheck s B p w gs y v stood a.client (Auditing audit next) passed_point (Passes audit.begin next) [] y (slice_set gs next (checked g)) refl (refl, pass.0, refl) refl tt
         stood.stands.at.system (ap (λ l. slice_set l next (checked g)) stood.stands.at.regions) refl (dead_checked gs next g there stood.stands.dead) (λ fs held. places_checked gs next g fs there held) stood.quiet (λ e. e)
         (λ t lives other. refl) (λ b other. is_own b other)
 
-    pub passes : j.transcript ≡ k.transcript → rest_of j ≡ rest_of k → j.state ≡ Auditing (passed audit next g) (next + 1) → Went told may_leave faults precheck s B p w a (Auditing audit next) gs y v true j (slice_set gs next (checked g)) y v
+    pub passes : j.transcript ≡ k.transcript → rest_of j ≡ rest_of k → j.state ≡ Auditing (passed audit next g) (next + 1) → Went means precheck s B p w a (Auditing audit next) gs y v true j (slice_set gs next (checked g)) y v
     passes same rest state =
-        went_on told may_leave faults precheck s B B p passed_point w a (Auditing audit next) gs (slice_set gs next (checked g)) y y v v [] k j is pass_did true same
-        (subst (λ (x : State). Fits told may_leave faults s B passed_point (after w a.client [] passed_point.core) (slice_set gs next (checked g)) y v (behind a w []) (rest_of j) x) (sym state) (record {
+        went_on means precheck s B B p passed_point w a (Auditing audit next) gs (slice_set gs next (checked g)) y y v v [] k j is pass_did true same
+        (subst (λ (x : State). Fits means s B passed_point (after w a.client [] passed_point.core) (slice_set gs next (checked g)) y v (behind a w []) (rest_of j) x) (sym state) (record {
           more = fits.more;
           audits = rest ∙ fits.audits;
           spot = fits.spot ∙ ap (at (IsOutside false)) (sym rest);

@@ -8,14 +8,15 @@ use Rattle.dali_record.specs.declared.records.Record.{Record}
 use Rattle.dali_record.specs.declared.records.Record.TheVariants.{Commit}
 use Rattle.dali_region.specs.State.{RegionState}
 use Rattle.dali_store.specs.Store.{Files as Disk}
-use Rattle.dali_system.specs.declared.causes.Cause.{Cause}
-use Rattle.dali_system.specs.State.{SystemState, CoreState, stable}
-use Rattle.dali_system.specs.Steps.{store_stopped, taken}
+use Rattle.dali_store.specs.declared.store.Store.{Ghosts}
+use Rattle.dali_runs.specs.declared.causes.Cause.{Cause}
+use Rattle.dali_runs.specs.State.{SystemState, CoreState, stable}
+use Rattle.dali_runs.specs.Steps.{store_stopped, taken}
 use Rattle.dali_crash.specs.Checkpoints.{Point}
 use Rattle.dali_crash.specs.Traces.{Start, bases_of}
-use Rattle.dali_vault.specs.Vaulted.{Vaulted}
-use Rattle.dali_whole.specs.Cores.{IsWholeCore}
-use Rattle.dali_whole.specs.Flushed.{AllFlushed, HasStopped}
+use Rattle.dali_core.specs.Vault.Vaulted.{Vaulted}
+use Rattle.dali_core.specs.Cores.{IsWholeCore}
+use Rattle.dali_core.specs.Flushed.{AllFlushed, HasStopped}
 use Rattle.dali_transcripts.specs.Words.{Act, Commits as CommitAct, Why, StoppedBy, StoreFailed}
 use Rattle.dali_transcripts.specs.World.{Deed, Logs, Meets, Happening, World, log_of, IsFlushed, has_failed}
 use Rattle.dali_transcripts.specs.Moves.{Within as IsWithin, at, Move, Commits as CommitsMove, CommitFails, own}
@@ -23,9 +24,9 @@ use Rattle.dali_transcripts.specs.Causes.{HasCause, AreBehind, FindsFailure}
 use Rattle.dali_transcripts.specs.Laws.{receipts_from}
 use Rattle.dali_transcripts.specs.Rounds.{Standing}
 use Rattle.dali_transcripts.proofs.Growing.{behinds}
-use Rattle.dali_clients.specs.Told.{act_of}
-use Rattle.dali_deeds.specs.Tells.{after}
-use Rattle.dali_deeds.proofs.Told.{log_is}
+use Rattle.dali_transcripts.specs.Clients.Told.{act_of}
+use Rattle.dali_transcripts.specs.Telling.Tells.{after}
+use Rattle.dali_transcripts.proofs.TellingLemmas.Told.{log_is}
 use Rattle.dali_turns.specs.declared.client.State.{State}
 use Rattle.dali_turns.specs.declared.client.Transaction.{Transaction}
 use Rattle.dali_turns.specs.Stood.{Stood}
@@ -41,9 +42,9 @@ not_before n m e = by_test (nat_lt n m) refl e
     by_test true less h = absurd (cc)
     by_test false more h = ltb-false n m more
 
-module _ {V : Type 0} (told : V → Option Disk) (may_leave : V → Disk → Type 0) (faults : V → ℕ)
+module _ {V : Type 0} (means : Ghosts V)
     (precheck : Bool) (s : Start) (B : List (List Record)) (p : Point) (w : World) (a : Standing) (gs : List RegionState) (y : SystemState) (v : Vaulted V) (st : State)
-    (stood : Stood told may_leave faults s B p w precheck gs y v) where
+    (stood : Stood means s B p w precheck gs y v) where
   pub stable_is : stable w.core ≡ y.first + v.flushed
   stable_is = ap stable stood.tells.core ∙ (ap (λ (m : SystemState). m.first + p.core.vault.flushed) stood.stands.at.system ∙ ap (λ n. y.first + n) stood.stands.at.vault.vault.flushed)
 
@@ -55,9 +56,9 @@ module _ {V : Type 0} (told : V → Option Disk) (may_leave : V → Disk → Typ
     in_commit = fits.spot ∙ ap (at (IsWithin x.txn x.tries commands x.deadly false)) fits.commits
 
     -- ---- the flush
-    module _ (z : SystemState) (u : Vaulted V) (z_is : z ≡ taken y) (ran : u.stopped ≡ false) (whole : IsWholeCore told gs y v → IsWholeCore told gs z u) (f : AllFlushed told may_leave faults s p gs v z u) where
-      pub flushed_did : Did told may_leave faults precheck s B p w a.client st gs y v [] f.batches f.to gs z u
-      flushed_did = did_flush told may_leave faults precheck s B p w a.client st gs y z v u stood z_is ran whole f
+    module _ (z : SystemState) (u : Vaulted V) (z_is : z ≡ taken y) (ran : u.stopped ≡ false) (whole : IsWholeCore means.told gs y v → IsWholeCore means.told gs z u) (f : AllFlushed means s p gs v z u) where
+      pub flushed_did : Did means precheck s B p w a.client st gs y v [] f.batches f.to gs z u
+      flushed_did = did_flush means precheck s B p w a.client st gs y z v u stood z_is ran whole f
 
       abbrev pub flushed_world : World
       flushed_world = after w a.client [] f.to.core
@@ -92,10 +93,10 @@ module _ {V : Type 0} (told : V → Option Disk) (may_leave : V → Disk → Typ
       own_there m = ap (λ xs. xs ++ (length (log_of w), m) ∷ []) (fits.pending ∙ ap (λ ys. (number, Logs (Commit x.txn)) ∷ ys) none_behind)
 
       -- ---- the flush fails
-      module _ (z : SystemState) (u : Vaulted V) (z_is : z ≡ store_stopped (taken y)) (stopped : u.stopped ≡ true) (same : u.flushed ≡ v.flushed) (whole : IsWholeCore told gs y v → IsWholeCore told gs z u)
-          (f : HasStopped told may_leave faults s B p gs z u) where
-        pub lost_did : Did told may_leave faults precheck s B p w a.client st gs y v (Meets StoreFailed ∷ []) B f.to gs z u
-        lost_did = did_fault told may_leave faults precheck s B p w a.client st gs y z v u stood z_is stopped whole f
+      module _ (z : SystemState) (u : Vaulted V) (z_is : z ≡ store_stopped (taken y)) (stopped : u.stopped ≡ true) (same : u.flushed ≡ v.flushed) (whole : IsWholeCore means.told gs y v → IsWholeCore means.told gs z u)
+          (f : HasStopped means s B p gs z u) where
+        pub lost_did : Did means precheck s B p w a.client st gs y v (Meets StoreFailed ∷ []) B f.to gs z u
+        lost_did = did_fault means precheck s B p w a.client st gs y z v u stood z_is stopped whole f
 
         abbrev pub fault : Move
         fault = CommitFails x.txn x.tries commands x.deadly number (length (log_of w)) StoreFailed fits.more
@@ -124,10 +125,10 @@ module _ {V : Type 0} (told : V → Option Disk) (may_leave : V → Disk → Typ
         abbrev pub here : World
         here = after w a.client (Meets why ∷ []) p.core
 
-        pub met_did : Did told may_leave faults precheck s B p w a.client st gs y v (Meets why ∷ []) B p gs y v
-        met_did = did_meet told may_leave faults precheck s B p w gs y v stood a.client st why tt
+        pub met_did : Did means precheck s B p w a.client st gs y v (Meets why ∷ []) B p gs y v
+        met_did = did_meet means precheck s B p w gs y v stood a.client st why tt
             (right_now w a.client p.core CommitAct (Some x.txn) why
-            (stop_now (bases_of s) s.log w a.client p stood.stands.at.vault.run stood.tells (vault_stops told may_leave faults precheck s B p w gs y v stood) CommitAct (Some x.txn) cause_is.0 tt (ap (λ (m : SystemState). m.stop) stood.stands.at.system ∙ cause_is.1)))
+            (stop_now (bases_of s) s.log w a.client p stood.stands.at.vault.run stood.tells (vault_stops means precheck s B p w gs y v stood) CommitAct (Some x.txn) cause_is.0 tt (ap (λ (m : SystemState). m.stop) stood.stands.at.system ∙ cause_is.1)))
 
         abbrev pub finds : Move
         finds = CommitFails x.txn x.tries commands x.deadly number (length (log_of w)) why fits.more

@@ -2,8 +2,8 @@
 use Rattle.std.proofs.Common.{◌≡◌, ℕ, ◌+◌, ◌<◌, Bool, true, false, List, [], ◌∷◌, ◌++◌, length, map, sum_by, Option, Some, None, is_some, IfSome, Result, Err, IfErr, refl, ap, sym, subst, ◌∙◌, ◌⊎◌, inl, inr, arith}
 use Rattle.std.specs.Prelude.{◌==◌, ◌||◌, if◌then◌else◌, IsSome, nat_lt}
 use Rattle.std.proofs.lemmas.Bool.{ne_eqb, ltb-true}
-use Rattle.dali_counts.proofs.Lists.{self, equal}
-use Rattle.dali_counts.proofs.SmallLogs.{next_is_small}
+use Rattle.dali_runs.proofs.CountsLemmas.Lists.{self, equal}
+use Rattle.dali_runs.proofs.CountsLemmas.SmallLogs.{next_is_small}
 use Rattle.dali_record.specs.declared.records.Record.{Record}
 use Rattle.dali_record.specs.declared.records.Record.TheVariants.{Begin as BeginRecord}
 use Rattle.dali_record.specs.Spelling.{record_length}
@@ -12,38 +12,39 @@ use Rattle.dali_region.specs.State.{RegionState}
 use Rattle.dali_att.specs.declared.state.State.{State as RowState}
 use Rattle.dali_att.specs.declared.state.State.TheVariants.{Live}
 use Rattle.dali_store.specs.Store.{Files as Disk}
-use Rattle.dali_system.specs.declared.causes.Cause.{Cause}
-use Rattle.dali_system.specs.State.{SystemState, CoreState, TxnRow, row_of, state_in, state_of, hold_of, lock_of}
-use Rattle.dali_system.specs.Run.{RunsOn}
-use Rattle.dali_system.specs.Regions.{is_alive}
-use Rattle.dali_system.specs.Keeps.{HasRoom, IsNext, IsFree, with_system}
-use Rattle.dali_system.specs.Steps.{begun}
-use Rattle.dali_system.specs.Courses.{Begins as BeginsStep}
-use Rattle.dali_system.specs.Wholes.{latched_in}
-use Rattle.dali_facts.specs.Plans.{AtWork}
-use Rattle.dali_facts.specs.Ends.{HasBegun}
-use Rattle.dali_facts.proofs.Ends.{begin_follows, next_is_unbegun}
-use Rattle.dali_facts.proofs.OlderRows.{rows_are_older}
+use Rattle.dali_store.specs.declared.store.Store.{Ghosts}
+use Rattle.dali_runs.specs.declared.causes.Cause.{Cause}
+use Rattle.dali_runs.specs.State.{SystemState, CoreState, TxnRow, row_of, state_in, state_of, hold_of, lock_of}
+use Rattle.dali_runs.specs.Run.{RunsOn}
+use Rattle.dali_runs.specs.Regions.{is_alive}
+use Rattle.dali_runs.specs.Keeps.{HasRoom, IsNext, IsFree, with_system}
+use Rattle.dali_runs.specs.Steps.{begun}
+use Rattle.dali_runs.specs.Courses.{Begins as BeginsStep}
+use Rattle.dali_runs.specs.Wholes.{latched_in}
+use Rattle.dali_runs.specs.Facts.Plans.{AtWork}
+use Rattle.dali_runs.specs.Facts.Ends.{HasBegun}
+use Rattle.dali_runs.proofs.FactsLemmas.Ends.{begin_follows, next_is_unbegun}
+use Rattle.dali_runs.proofs.FactsLemmas.OlderRows.{rows_are_older}
 use Rattle.dali_crash.specs.Checkpoints.{Does, Point, IsPointStep, copies_after}
 use Rattle.dali_crash.specs.Traces.{Start, bases_of}
-use Rattle.dali_vault.specs.Vaulted.{Vaulted}
-use Rattle.dali_core.specs.declared.error.SystemError.{SystemError}
-use Rattle.dali_core.specs.declared.error.SystemError.TheVariants.{Stopped, LogFull, OutOfMemory}
-use Rattle.dali_core.specs.Refused.{room_of, refusal}
-use Rattle.dali_single.specs.Single.{MayCall}
-use Rattle.dali_clients.specs.declared.command.Command.TheVariants.{Begin}
-use Rattle.dali_clients.specs.declared.line.Why.{Why}
-use Rattle.dali_clients.specs.declared.line.Why.TheVariants.{Stopped as IsStopped, LogFull as IsFull}
-use Rattle.dali_clients.specs.declared.line.Line.TheVariants.{Begun, Refused}
-use Rattle.dali_clients.specs.Told.{act_of, reason_of}
+use Rattle.dali_core.specs.Vault.Vaulted.{Vaulted}
+use Rattle.dali_system.specs.declared.error.SystemError.{SystemError}
+use Rattle.dali_system.specs.declared.error.SystemError.TheVariants.{Stopped, LogFull, OutOfMemory}
+use Rattle.dali_system.specs.Refused.{room_of, refusal}
+use Rattle.dali_calls.specs.Single.Single.{MayCall}
+use Rattle.dali_transcripts.specs.declared.clients.command.Command.TheVariants.{Begin}
+use Rattle.dali_transcripts.specs.declared.clients.line.Why.{Why}
+use Rattle.dali_transcripts.specs.declared.clients.line.Why.TheVariants.{Stopped as IsStopped, LogFull as IsFull}
+use Rattle.dali_transcripts.specs.declared.clients.line.Line.TheVariants.{Begun, Refused}
+use Rattle.dali_transcripts.specs.Clients.Told.{act_of, reason_of}
 use Rattle.dali_transcripts.specs.Words.{Act, Begins as BeginAct, Why as Reason, StoppedBy, Full, is_stop, Said, Begun as SaidBegun}
 use Rattle.dali_transcripts.specs.World.{Deed, Logs, Meets, World, log_of, is_claimed_in, HasEndedBy}
 use Rattle.dali_transcripts.specs.Moves.{Receipt, Place, Outside as IsOutside, Within as IsWithin, Again, LeftOut as IsLeftOut, Move, Begins, BeginsAgain, IsRefusedBegin, from, to, own, said, at}
 use Rattle.dali_transcripts.specs.Causes.{MayBegin, WaitsNoMore, HasCause, spares, undos_behind}
 use Rattle.dali_transcripts.specs.Rounds.{Standing, IsPlaced}
-use Rattle.dali_deeds.specs.Tells.{after}
-use Rattle.dali_deeds.specs.Laws.{IsNoFault}
-use Rattle.dali_deeds.proofs.States.{begun_state}
+use Rattle.dali_transcripts.specs.Telling.Tells.{after}
+use Rattle.dali_transcripts.specs.Telling.Laws.{IsNoFault}
+use Rattle.dali_transcripts.proofs.TellingLemmas.States.{begun_state}
 use Rattle.dali_locks.specs.declared.mode.Mode.{Mode}
 use Rattle.dali_turns.specs.declared.client.Client.{Client}
 use Rattle.dali_turns.specs.declared.client.Transaction.{Transaction}
@@ -62,7 +63,7 @@ use Rattle.dali_turns.proofs.Poking.{went_nowhere}
 use Rattle.dali_turns.proofs.Refusals.{runs_on_log, end_is as end_of_log, log_there, HasCauseNow, met_now, right_now, stop_now, runs_there, may_say_more}
 use Rattle.dali_turns.proofs.Rows.{gone_by}
 use Rattle.dali_turns.proofs.Calling.{none_so_far}
-use Rattle.dali_rounds.specs.Went.{is_open}
+use Rattle.dali_transactions.specs.Beside.Went.{is_open}
 
 -- ---- rows
 has_row : (o : Option TxnRow) → is_some (state_in o) ≡ true → is_some o ≡ true
@@ -98,18 +99,18 @@ module _ (y : SystemState) where
       by_test true e is = inl (number ∙ equal y.next t e)
       by_test false e is = inr (is, apart t)
 
-module _ {V : Type 0} (told : V → Option Disk) (may_leave : V → Disk → Type 0) (faults : V → ℕ) where
+module _ {V : Type 0} (means : Ghosts V) where
   -- where the engine runs, who had to end has ended
-  ended_here : (precheck : Bool) (s : Start) (B : List (List Record)) (p : Point) (w : World) (gs : List RegionState) (y : SystemState) (v : Vaulted V) → Stood told may_leave faults s B p w precheck gs y v
+  ended_here : (precheck : Bool) (s : Start) (B : List (List Record)) (p : Point) (w : World) (gs : List RegionState) (y : SystemState) (v : Vaulted V) → Stood means s B p w precheck gs y v
       → (c : ℕ) (ds : List Deed) (d : CoreState) (holder : ℕ) → y.stop ≡ None → HadRow w holder → HasGone y holder ⊎ IsSome y.stop → HasEndedBy (after w c ds d) holder (length (log_of w))
   ended_here precheck s B p w gs y v stood c ds d holder up had (inr stopped) = let never : is_some y.stop ≡ false = ap is_some up in absurd (cc)
   ended_here precheck s B p w gs y v stood c ds d holder up had (inl gone) =
       let same : w.core.system ≡ y = ap (λ (k : CoreState). k.system) stood.tells.core ∙ stood.stands.at.system in
       gone_by w p stood.tells stood.began c ds d holder (ap (λ (m : SystemState). m.stop) same ∙ up) had (subst (λ (m : SystemState). HasGone m holder) (sym same) gone)
 
-module _ {V : Type 0} (told : V → Option Disk) (may_leave : V → Disk → Type 0) (faults : V → ℕ)
+module _ {V : Type 0} (means : Ghosts V)
     (precheck : Bool) (s : Start) (B : List (List Record)) (p : Point) (w : World) (a : Standing) (gs : List RegionState) (y : SystemState) (v : Vaulted V) (k j : Client) (state : State)
-    (stood : Stood told may_leave faults s B p w precheck gs y v) (is : IsOf w a k) (next : next_of k ≡ Some Begin) (apart : (t : ℕ) → Owns state t → ⊥) where
+    (stood : Stood means s B p w precheck gs y v) (is : IsOf w a k) (next : next_of k ≡ Some Begin) (apart : (t : ℕ) → Owns state t → ⊥) where
   acts : rest_of k ≡ BeginAct ∷ behind_next k
   acts = next_act k Begin next
 
@@ -137,9 +138,9 @@ module _ {V : Type 0} (told : V → Option Disk) (may_leave : V → Disk → Typ
     own_number : x.txn ≡ p.core.system.next
     own_number = number ∙ ap (λ (m : SystemState). m.next) (sym stood.stands.at.system)
 
-    did : Did told may_leave faults precheck s B p w a.client state gs y v (Logs (BeginRecord p.core.system.next) ∷ []) B q gs (begun y) v
-    did = did_quietly told may_leave faults precheck s B p w gs y v stood a.client state q BeginsStep (Logs (BeginRecord p.core.system.next) ∷ []) (begun y) gs refl step refl
-        (runs_there (bases_of s) s.log w a.client p stood.stands.at.vault.run stood.tells (vault_stops told may_leave faults precheck s B p w gs y v stood) (Logs (BeginRecord p.core.system.next)) q.core (ap (λ (m : SystemState). m.stop) stood.stands.at.system ∙ room.runs), tt)
+    did : Did means precheck s B p w a.client state gs y v (Logs (BeginRecord p.core.system.next) ∷ []) B q gs (begun y) v
+    did = did_quietly means precheck s B p w gs y v stood a.client state q BeginsStep (Logs (BeginRecord p.core.system.next) ∷ []) (begun y) gs refl step refl
+        (runs_there (bases_of s) s.log w a.client p stood.stands.at.vault.run stood.tells (vault_stops means precheck s B p w gs y v stood) (Logs (BeginRecord p.core.system.next)) q.core (ap (λ (m : SystemState). m.stop) stood.stands.at.system ∙ room.runs), tt)
         (ap begun stood.stands.at.system) stood.stands.at.regions refl
         stood.stands.dead (λ fs held. held) (quiet_then y stood.quiet) (λ e. e) (λ t lives other. refl) (λ b other. refl)
 
@@ -207,15 +208,15 @@ module _ {V : Type 0} (told : V → Option Disk) (may_leave : V → Disk → Typ
         ap (λ (xs : List Receipt). xs ++ (length (log_of w), Logs (BeginRecord p.core.system.next)) ∷ []) b.none
         ∙ (ap (λ (n : ℕ). let xs : List Receipt = (length (log_of w), Logs (BeginRecord n)) ∷ [] in xs) (sym own_number) ∙ sym b.own_is)
 
-    pub begun_went : IsBeginning → Finishes k (Within x) (Begun x.txn) j → Went told may_leave faults precheck s B p w a state gs y v true j gs (begun y) v
-    begun_went b f = went_by told may_leave faults precheck s B B p q w a state gs gs y (begun y) v v (Logs (BeginRecord p.core.system.next) ∷ []) k j is did b.move b.starts (own_here b) b.cause
+    pub begun_went : IsBeginning → Finishes k (Within x) (Begun x.txn) j → Went means precheck s B p w a state gs y v true j gs (begun y) v
+    begun_went b f = went_by means precheck s B B p q w a state gs gs y (begun y) v v (Logs (BeginRecord p.core.system.next) ∷ []) k j is did b.move b.starts (own_here b) b.cause
         (finished_client k j (Within x) (Begun x.txn) f) (finished_lines k j (Within x) (Begun x.txn) f ∙ ap (λ (l : List Said). lines_of k ++ l) (sym b.says))
-        (subst (λ (st : State). Fits told may_leave faults s B q (after w a.client (Logs (BeginRecord p.core.system.next) ∷ []) q.core) gs (begun y) v (ended a b.move) (rest_of j) st) (sym f.stands)
+        (subst (λ (st : State). Fits means s B q (after w a.client (Logs (BeginRecord p.core.system.next) ∷ []) q.core) gs (begun y) v (ended a b.move) (rest_of j) st) (sym f.stands)
         (now_within (finished_rest k j (Within x) (Begun x.txn) f) (ended a b.move) x.tries refl b.few b.goes refl b.placed))
         (subst (λ (st : State). RowsTell state y st (begun y)) (sym f.stands) (rows_then y state x number apart))
 
-    pub silent_went : IsBeginning → Passes k (Within x) j → Went told may_leave faults precheck s B p w a state gs y v false j gs (begun y) v
-    silent_went b f = went_silent told may_leave faults precheck s B B p q w a state gs gs y (begun y) v v (Logs (BeginRecord p.core.system.next) ∷ []) k j is did b.move b.starts (own_here b) b.cause f.transcript
+    pub silent_went : IsBeginning → Passes k (Within x) j → Went means precheck s B p w a state gs y v false j gs (begun y) v
+    silent_went b f = went_silent means precheck s B B p q w a state gs gs y (begun y) v v (Logs (BeginRecord p.core.system.next) ∷ []) k j is did b.move b.starts (own_here b) b.cause f.transcript
 
     -- from outside
     pub first_time : FitsOutside y a (rest_of k) → x.tries ≡ 0 → IsBeginning
@@ -239,7 +240,7 @@ module _ {V : Type 0} (told : V → Option Disk) (may_leave : V → Disk → Typ
       own_is = refl;
       says = refl;
       goes = ap (λ (m : ℕ). at (IsWithin x.txn m (BeginAct ∷ behind_next k) None false) (behind_next k)) (sym tried);
-      cause = ended_here told may_leave faults precheck s B p w gs y v stood a.client (Logs (BeginRecord p.core.system.next) ∷ []) q.core holder room.runs fits.had gone;
+      cause = ended_here means precheck s B p w gs y v stood a.client (Logs (BeginRecord p.core.system.next) ∷ []) q.core holder room.runs fits.had gone;
       none = fits.none;
       placed = fits.placed;
       few = subst (λ (m : ℕ). m < 1000) (sym tried) fits.few;
@@ -259,12 +260,12 @@ module _ {V : Type 0} (told : V → Option Disk) (may_leave : V → Disk → Typ
       pub may : MaySay y said_it
       pub placed : IsPlaced false (rest_of k)
 
-    pub refused_went : IsRefusedFrom → Finishes k LeftOut (Refused Begin why) j → Went told may_leave faults precheck s B p w a state gs y v true j gs y v
+    pub refused_went : IsRefusedFrom → Finishes k LeftOut (Refused Begin why) j → Went means precheck s B p w a state gs y v true j gs y v
     refused_went b f =
-        went_by told may_leave faults precheck s B B p p w a state gs gs y y v v (Meets (reason_of why) ∷ []) k j is (did_meet told may_leave faults precheck s B p w gs y v stood a.client state (reason_of why) fault (right_now w a.client p.core BeginAct None (reason_of why) cause))
+        went_by means precheck s B B p p w a state gs gs y y v v (Meets (reason_of why) ∷ []) k j is (did_meet means precheck s B p w gs y v stood a.client state (reason_of why) fault (right_now w a.client p.core BeginAct None (reason_of why) cause))
         (IsRefusedBegin b.place b.said_it (length (log_of w)) (reason_of why) (behind_next k)) (b.spot ∙ ap (at b.place) acts) (ap (λ (xs : List Receipt). xs ++ (length (log_of w), Meets (reason_of why)) ∷ []) b.none) (b.begins, met_now w a.client p.core BeginAct None (reason_of why) cause, b.waits)
         (finished_client k j LeftOut (Refused Begin why) f) (finished_lines k j LeftOut (Refused Begin why) f)
-        (subst (λ (st : State). Fits told may_leave faults s B p (after w a.client (Meets (reason_of why) ∷ []) p.core) gs y v (ended a (IsRefusedBegin b.place b.said_it (length (log_of w)) (reason_of why) (behind_next k))) (rest_of j) st) (sym f.stands)
+        (subst (λ (st : State). Fits means s B p (after w a.client (Meets (reason_of why) ∷ []) p.core) gs y v (ended a (IsRefusedBegin b.place b.said_it (length (log_of w)) (reason_of why) (behind_next k))) (rest_of j) st) (sym f.stands)
         (record {
           said = b.said_it || is_stop (reason_of why);
           may = may_say_more y b.said_it (reason_of why) b.may stops;
@@ -293,7 +294,7 @@ module _ {V : Type 0} (told : V → Option Disk) (may_leave : V → Disk → Typ
     next = (p.core.system.next, refl, subst (λ (L : List Record). IsNext p.core.system.sizes L p.core.system.next (BeginRecord p.core.system.next)) (stood.tells.log ∙ sym (log_there w a.client (Meets (Full p.core.system.end p.core.system.limit)) p.core)) (ap is_some hb.at_work));
     spelled = omega (arith, runs.counts.next, next_is_small p.core.system.sizes p.log runs.counts.now runs.log.legal runs.counts.rules);
     passes = above;
-    runs = runs_there (bases_of s) s.log w a.client p stood.stands.at.vault.run stood.tells (vault_stops told may_leave faults precheck s B p w gs y v stood) (Meets (Full p.core.system.end p.core.system.limit)) p.core up;
+    runs = runs_there (bases_of s) s.log w a.client p stood.stands.at.vault.run stood.tells (vault_stops means precheck s B p w gs y v stood) (Meets (Full p.core.system.end p.core.system.limit)) p.core up;
   }
 
 -- ---- why the system refuses it
@@ -333,99 +334,99 @@ full_in None end limit n bound top r = by_test (nat_lt limit (end + n)) refl r
     by_test false less f = let never : None ≡ Some (LogFull bound top) = f in absurd (cc)
 
 -- ---- for the call
-module _ {V : Type 0} (told : V → Option Disk) (may_leave : V → Disk → Type 0) (faults : V → ℕ) (precheck : Bool) (gs : List RegionState) (y : SystemState) (v : Vaulted V) (k j : Client) (next : next_of k ≡ Some Begin) (tries : ℕ) where
+module _ {V : Type 0} (means : Ghosts V) (precheck : Bool) (gs : List RegionState) (y : SystemState) (v : Vaulted V) (k j : Client) (next : next_of k ≡ Some Begin) (tries : ℕ) where
   module _ (x : Transaction) (room : HasRoom y (BeginRecord y.next)) (number : x.txn ≡ y.next) (commands : x.commands.now ≡ k.rest.now) (deadly : x.deadly ≡ None) (tried : x.tries ≡ tries) where
-    pub begins_goes : (state : State) → BeginsFrom y tries state → Finishes k (Within x) (Begun x.txn) j → StepGoes told may_leave faults precheck state k gs y v true j gs (begun y) v
+    pub begins_goes : (state : State) → BeginsFrom y tries state → Finishes k (Within x) (Begun x.txn) j → StepGoes means precheck state k gs y v true j gs (begun y) v
     begins_goes Outside from_here f s B p w a stood is fits =
-        begun_went told may_leave faults precheck s B p w a gs y v k j Outside stood is next (λ t e. e) x room number commands deadly
-        (first_time told may_leave faults precheck s B p w a gs y v k j Outside stood is next (λ t e. e) x room number commands deadly fits (tried ∙ from_here)) f
+        begun_went means precheck s B p w a gs y v k j Outside stood is next (λ t e. e) x room number commands deadly
+        (first_time means precheck s B p w a gs y v k j Outside stood is next (λ t e. e) x room number commands deadly fits (tried ∙ from_here)) f
     begins_goes (Waiting n holder) from_here f s B p w a stood is fits =
-        begun_went told may_leave faults precheck s B p w a gs y v k j (Waiting n holder) stood is next (λ t e. e) x room number commands deadly
-        (again told may_leave faults precheck s B p w a gs y v k j (Waiting n holder) stood is next (λ t e. e) x room number commands deadly n holder fits (tried ∙ sym from_here.0) from_here.1) f
+        begun_went means precheck s B p w a gs y v k j (Waiting n holder) stood is next (λ t e. e) x room number commands deadly
+        (again means precheck s B p w a gs y v k j (Waiting n holder) stood is next (λ t e. e) x room number commands deadly n holder fits (tried ∙ sym from_here.0) from_here.1) f
     begins_goes state from_here f s B p w a stood is fits = absurd from_here
 
-    pub begins_silently : (state : State) → BeginsFrom y tries state → Passes k (Within x) j → StepGoes told may_leave faults precheck state k gs y v false j gs (begun y) v
+    pub begins_silently : (state : State) → BeginsFrom y tries state → Passes k (Within x) j → StepGoes means precheck state k gs y v false j gs (begun y) v
     begins_silently Outside from_here f s B p w a stood is fits =
-        silent_went told may_leave faults precheck s B p w a gs y v k j Outside stood is next (λ t e. e) x room number commands deadly
-        (first_time told may_leave faults precheck s B p w a gs y v k j Outside stood is next (λ t e. e) x room number commands deadly fits (tried ∙ from_here)) f
+        silent_went means precheck s B p w a gs y v k j Outside stood is next (λ t e. e) x room number commands deadly
+        (first_time means precheck s B p w a gs y v k j Outside stood is next (λ t e. e) x room number commands deadly fits (tried ∙ from_here)) f
     begins_silently (Waiting n holder) from_here f s B p w a stood is fits =
-        silent_went told may_leave faults precheck s B p w a gs y v k j (Waiting n holder) stood is next (λ t e. e) x room number commands deadly
-        (again told may_leave faults precheck s B p w a gs y v k j (Waiting n holder) stood is next (λ t e. e) x room number commands deadly n holder fits (tried ∙ sym from_here.0) from_here.1) f
+        silent_went means precheck s B p w a gs y v k j (Waiting n holder) stood is next (λ t e. e) x room number commands deadly
+        (again means precheck s B p w a gs y v k j (Waiting n holder) stood is next (λ t e. e) x room number commands deadly n holder fits (tried ∙ sym from_here.0) from_here.1) f
     begins_silently state from_here f s B p w a stood is fits = absurd from_here
 
-    pub begun_goes : (z : SystemState) → z ≡ begun y → (state : State) → BeginsFrom y tries state → Finishes k (Within x) (Begun x.txn) j → StepGoes told may_leave faults precheck state k gs y v true j gs z v
-    begun_goes z same state from_here f = subst (λ (m : SystemState). StepGoes told may_leave faults precheck state k gs y v true j gs m v) (sym same) (begins_goes state from_here f)
+    pub begun_goes : (z : SystemState) → z ≡ begun y → (state : State) → BeginsFrom y tries state → Finishes k (Within x) (Begun x.txn) j → StepGoes means precheck state k gs y v true j gs z v
+    begun_goes z same state from_here f = subst (λ (m : SystemState). StepGoes means precheck state k gs y v true j gs m v) (sym same) (begins_goes state from_here f)
 
-    pub begun_silently : (z : SystemState) (ok : Bool) → z ≡ begun y → ok ≡ false → (state : State) → BeginsFrom y tries state → Passes k (Within x) j → StepGoes told may_leave faults precheck state k gs y v ok j gs z v
+    pub begun_silently : (z : SystemState) (ok : Bool) → z ≡ begun y → ok ≡ false → (state : State) → BeginsFrom y tries state → Passes k (Within x) j → StepGoes means precheck state k gs y v ok j gs z v
     begun_silently z ok same no_line state from_here f =
-        subst (λ (b : Bool). StepGoes told may_leave faults precheck state k gs y v b j gs z v) (sym no_line)
-        (subst (λ (m : SystemState). StepGoes told may_leave faults precheck state k gs y v false j gs m v) (sym same) (begins_silently state from_here f))
+        subst (λ (b : Bool). StepGoes means precheck state k gs y v b j gs z v) (sym no_line)
+        (subst (λ (m : SystemState). StepGoes means precheck state k gs y v false j gs m v) (sym same) (begins_silently state from_here f))
 
   -- nothing was done
-  pub begins_nowhere : (state : State) → BeginsFrom y tries state → j.transcript ≡ k.transcript → StepGoes told may_leave faults precheck state k gs y v false j gs y v
-  begins_nowhere Outside from_here same s B p w a stood is fits = went_nowhere told may_leave faults precheck Outside s B p w a gs y v k j stood is (due_at a.spot (IsOutside fits.said) (rest_of k) fits.spot tt) fits.none same
-  begins_nowhere (Waiting n holder) from_here same s B p w a stood is fits = went_nowhere told may_leave faults precheck (Waiting n holder) s B p w a gs y v k j stood is (due_at a.spot (Again n holder fits.said) (rest_of k) fits.spot tt) fits.none same
+  pub begins_nowhere : (state : State) → BeginsFrom y tries state → j.transcript ≡ k.transcript → StepGoes means precheck state k gs y v false j gs y v
+  begins_nowhere Outside from_here same s B p w a stood is fits = went_nowhere means precheck Outside s B p w a gs y v k j stood is (due_at a.spot (IsOutside fits.said) (rest_of k) fits.spot tt) fits.none same
+  begins_nowhere (Waiting n holder) from_here same s B p w a stood is fits = went_nowhere means precheck (Waiting n holder) s B p w a gs y v k j stood is (due_at a.spot (Again n holder fits.said) (rest_of k) fits.spot tt) fits.none same
   begins_nowhere state from_here same s B p w a stood is fits = absurd from_here
 
-  pub unsaid_goes : (z : SystemState) (ok : Bool) → z ≡ y → ok ≡ false → (state : State) → BeginsFrom y tries state → j.transcript ≡ k.transcript → StepGoes told may_leave faults precheck state k gs y v ok j gs z v
+  pub unsaid_goes : (z : SystemState) (ok : Bool) → z ≡ y → ok ≡ false → (state : State) → BeginsFrom y tries state → j.transcript ≡ k.transcript → StepGoes means precheck state k gs y v ok j gs z v
   unsaid_goes z ok same no_line state from_here f =
-      subst (λ (b : Bool). StepGoes told may_leave faults precheck state k gs y v b j gs z v) (sym no_line)
-      (subst (λ (m : SystemState). StepGoes told may_leave faults precheck state k gs y v false j gs m v) (sym same) (begins_nowhere state from_here f))
+      subst (λ (b : Bool). StepGoes means precheck state k gs y v b j gs z v) (sym no_line)
+      (subst (λ (m : SystemState). StepGoes means precheck state k gs y v false j gs m v) (sym same) (begins_nowhere state from_here f))
 
   -- ---- refused by a stop
   module _ (cause : Cause) (stopped : y.stop ≡ Some cause) where
-    module _ (s : Start) (B : List (List Record)) (p : Point) (w : World) (a : Standing) (state : State) (stood : Stood told may_leave faults s B p w precheck gs y v) (is : IsOf w a k) (apart : (t : ℕ) → Owns state t → ⊥) where
+    module _ (s : Start) (B : List (List Record)) (p : Point) (w : World) (a : Standing) (state : State) (stood : Stood means s B p w precheck gs y v) (is : IsOf w a k) (apart : (t : ℕ) → Owns state t → ⊥) where
       stop_here : HasCauseNow w a.client p.core BeginAct None (StoppedBy cause)
-      stop_here = stop_now (bases_of s) s.log w a.client p stood.stands.at.vault.run stood.tells (vault_stops told may_leave faults precheck s B p w gs y v stood) BeginAct None cause tt
+      stop_here = stop_now (bases_of s) s.log w a.client p stood.stands.at.vault.run stood.tells (vault_stops means precheck s B p w gs y v stood) BeginAct None cause tt
           (ap (λ (m : SystemState). m.stop) stood.stands.at.system ∙ stopped)
 
       is_stopped : true ≡ true → is_some y.stop ≡ true
       is_stopped e = ap is_some stopped
 
-      stop_outside : FitsOutside y a (rest_of k) → Finishes k LeftOut (Refused Begin (IsStopped cause)) j → Went told may_leave faults precheck s B p w a state gs y v true j gs y v
+      stop_outside : FitsOutside y a (rest_of k) → Finishes k LeftOut (Refused Begin (IsStopped cause)) j → Went means precheck s B p w a state gs y v true j gs y v
       stop_outside fits f =
-          refused_went told may_leave faults precheck s B p w a gs y v k j state stood is next apart (IsStopped cause) tt stop_here is_stopped
-          (refused_outside told may_leave faults precheck s B p w a gs y v k j state stood is next apart (IsStopped cause) tt stop_here is_stopped fits) f
+          refused_went means precheck s B p w a gs y v k j state stood is next apart (IsStopped cause) tt stop_here is_stopped
+          (refused_outside means precheck s B p w a gs y v k j state stood is next apart (IsStopped cause) tt stop_here is_stopped fits) f
 
-      stop_again : (n holder : ℕ) → FitsWaiting w y a (rest_of k) n holder → Finishes k LeftOut (Refused Begin (IsStopped cause)) j → Went told may_leave faults precheck s B p w a state gs y v true j gs y v
+      stop_again : (n holder : ℕ) → FitsWaiting w y a (rest_of k) n holder → Finishes k LeftOut (Refused Begin (IsStopped cause)) j → Went means precheck s B p w a state gs y v true j gs y v
       stop_again n holder fits f =
-          refused_went told may_leave faults precheck s B p w a gs y v k j state stood is next apart (IsStopped cause) tt stop_here is_stopped
-          (refused_again told may_leave faults precheck s B p w a gs y v k j state stood is next apart (IsStopped cause) tt stop_here is_stopped n holder fits tt) f
+          refused_went means precheck s B p w a gs y v k j state stood is next apart (IsStopped cause) tt stop_here is_stopped
+          (refused_again means precheck s B p w a gs y v k j state stood is next apart (IsStopped cause) tt stop_here is_stopped n holder fits tt) f
 
-    pub stop_goes : (state : State) → BeginsFrom y tries state → Finishes k LeftOut (Refused Begin (IsStopped cause)) j → StepGoes told may_leave faults precheck state k gs y v true j gs y v
+    pub stop_goes : (state : State) → BeginsFrom y tries state → Finishes k LeftOut (Refused Begin (IsStopped cause)) j → StepGoes means precheck state k gs y v true j gs y v
     stop_goes Outside from_here f s B p w a stood is fits = stop_outside s B p w a Outside stood is (λ t e. e) fits f
     stop_goes (Waiting n holder) from_here f s B p w a stood is fits = stop_again s B p w a (Waiting n holder) stood is (λ t e. e) n holder fits f
     stop_goes state from_here f s B p w a stood is fits = absurd from_here
 
   -- ---- refused for want of room
   module _ (up : y.stop ≡ None) (above : y.limit < y.end + 9) where
-    module _ (s : Start) (B : List (List Record)) (p : Point) (w : World) (a : Standing) (state : State) (stood : Stood told may_leave faults s B p w precheck gs y v) (is : IsOf w a k) (apart : (t : ℕ) → Owns state t → ⊥) where
+    module _ (s : Start) (B : List (List Record)) (p : Point) (w : World) (a : Standing) (state : State) (stood : Stood means s B p w precheck gs y v) (is : IsOf w a k) (apart : (t : ℕ) → Owns state t → ⊥) where
       full_here : HasCauseNow w a.client p.core BeginAct None (Full y.end y.limit)
       full_here =
           subst (λ (m : SystemState). HasCauseNow w a.client p.core BeginAct None (Full m.end m.limit)) stood.stands.at.system
-          (full_now told may_leave faults precheck s B p w a gs y v k j state stood is next apart (ap (λ (m : SystemState). m.stop) stood.stands.at.system ∙ up) (subst (λ (m : SystemState). m.limit < m.end + 9) (sym stood.stands.at.system) above))
+          (full_now means precheck s B p w a gs y v k j state stood is next apart (ap (λ (m : SystemState). m.stop) stood.stands.at.system ∙ up) (subst (λ (m : SystemState). m.limit < m.end + 9) (sym stood.stands.at.system) above))
 
       no_stop : false ≡ true → is_some y.stop ≡ true
       no_stop e = absurd (cc)
 
-      full_outside : FitsOutside y a (rest_of k) → Finishes k LeftOut (Refused Begin (IsFull y.end y.limit)) j → Went told may_leave faults precheck s B p w a state gs y v true j gs y v
+      full_outside : FitsOutside y a (rest_of k) → Finishes k LeftOut (Refused Begin (IsFull y.end y.limit)) j → Went means precheck s B p w a state gs y v true j gs y v
       full_outside fits f =
-          refused_went told may_leave faults precheck s B p w a gs y v k j state stood is next apart (IsFull y.end y.limit) tt full_here no_stop
-          (refused_outside told may_leave faults precheck s B p w a gs y v k j state stood is next apart (IsFull y.end y.limit) tt full_here no_stop fits) f
+          refused_went means precheck s B p w a gs y v k j state stood is next apart (IsFull y.end y.limit) tt full_here no_stop
+          (refused_outside means precheck s B p w a gs y v k j state stood is next apart (IsFull y.end y.limit) tt full_here no_stop fits) f
 
-      full_again : (n holder : ℕ) → FitsWaiting w y a (rest_of k) n holder → HasGone y holder ⊎ IsSome y.stop → Finishes k LeftOut (Refused Begin (IsFull y.end y.limit)) j → Went told may_leave faults precheck s B p w a state gs y v true j gs y v
+      full_again : (n holder : ℕ) → FitsWaiting w y a (rest_of k) n holder → HasGone y holder ⊎ IsSome y.stop → Finishes k LeftOut (Refused Begin (IsFull y.end y.limit)) j → Went means precheck s B p w a state gs y v true j gs y v
       full_again n holder fits gone f =
-          refused_went told may_leave faults precheck s B p w a gs y v k j state stood is next apart (IsFull y.end y.limit) tt full_here no_stop
-          (refused_again told may_leave faults precheck s B p w a gs y v k j state stood is next apart (IsFull y.end y.limit) tt full_here no_stop n holder fits
-          (ended_here told may_leave faults precheck s B p w gs y v stood a.client (Meets (Full y.end y.limit) ∷ []) p.core holder up fits.had gone)) f
+          refused_went means precheck s B p w a gs y v k j state stood is next apart (IsFull y.end y.limit) tt full_here no_stop
+          (refused_again means precheck s B p w a gs y v k j state stood is next apart (IsFull y.end y.limit) tt full_here no_stop n holder fits
+          (ended_here means precheck s B p w gs y v stood a.client (Meets (Full y.end y.limit) ∷ []) p.core holder up fits.had gone)) f
 
-    pub full_goes : (state : State) → BeginsFrom y tries state → Finishes k LeftOut (Refused Begin (IsFull y.end y.limit)) j → StepGoes told may_leave faults precheck state k gs y v true j gs y v
+    pub full_goes : (state : State) → BeginsFrom y tries state → Finishes k LeftOut (Refused Begin (IsFull y.end y.limit)) j → StepGoes means precheck state k gs y v true j gs y v
     full_goes Outside from_here f s B p w a stood is fits = full_outside s B p w a Outside stood is (λ t e. e) fits f
     full_goes (Waiting n holder) from_here f s B p w a stood is fits = full_again s B p w a (Waiting n holder) stood is (λ t e. e) n holder fits from_here.1 f
     full_goes state from_here f s B p w a stood is fits = absurd from_here
 
   -- ---- refused
-  pub refused_goes : (state : State) (e : SystemError) (why : Why) → BeginsFrom y tries state → refusal y 9 ≡ Some e → why_in e ≡ Some why → Finishes k LeftOut (Refused Begin why) j → StepGoes told may_leave faults precheck state k gs y v true j gs y v
+  pub refused_goes : (state : State) (e : SystemError) (why : Why) → BeginsFrom y tries state → refusal y 9 ≡ Some e → why_in e ≡ Some why → Finishes k LeftOut (Refused Begin why) j → StepGoes means precheck state k gs y v true j gs y v
   refused_goes state (Stopped cause) why from_here r h f =
       let both : Some (IsStopped cause) ≡ Some why = h in
       let same : IsStopped cause ≡ why = cc in
@@ -438,5 +439,5 @@ module _ {V : Type 0} (told : V → Option Disk) (may_leave : V → Disk → Typ
       full_goes room.up room.above state from_here (subst (λ (z : Why). Finishes k LeftOut (Refused Begin z) j) (sym here) f)
   refused_goes state OutOfMemory why from_here r h f = let never : None ≡ Some why = h in absurd (cc)
 
-  pub refused_here : (z : SystemState) → z ≡ y → (state : State) (e : SystemError) (why : Why) → BeginsFrom y tries state → refusal y 9 ≡ Some e → why_in e ≡ Some why → Finishes k LeftOut (Refused Begin why) j → StepGoes told may_leave faults precheck state k gs y v true j gs z v
-  refused_here z same state e why from_here r h f = subst (λ (m : SystemState). StepGoes told may_leave faults precheck state k gs y v true j gs m v) (sym same) (refused_goes state e why from_here r h f)
+  pub refused_here : (z : SystemState) → z ≡ y → (state : State) (e : SystemError) (why : Why) → BeginsFrom y tries state → refusal y 9 ≡ Some e → why_in e ≡ Some why → Finishes k LeftOut (Refused Begin why) j → StepGoes means precheck state k gs y v true j gs z v
+  refused_here z same state e why from_here r h f = subst (λ (m : SystemState). StepGoes means precheck state k gs y v true j gs m v) (sym same) (refused_goes state e why from_here r h f)

@@ -4,8 +4,8 @@ use Rattle.std.specs.Prelude.{◌==◌, slice_get}
 use Rattle.std.specs.List.{list_all}
 use Rattle.std.proofs.lemmas.Bool.{and_parts, not-true}
 use Rattle.dali_lists.proofs.Numbers.{eqb_turned}
-use Rattle.dali_counts.proofs.Lists.{equal}
-use Rattle.dali_counts.proofs.Tallies.{tallies}
+use Rattle.dali_runs.proofs.CountsLemmas.Lists.{equal}
+use Rattle.dali_runs.proofs.CountsLemmas.Tallies.{tallies}
 use Rattle.dali_geometry.specs.Sizes.{Sizes}
 use Rattle.dali_record.specs.declared.records.Record.{Record}
 use Rattle.dali_record.specs.declared.records.Record.TheVariants.{Begin, Forward, Done, Commit, Ended, Solo, AuditBegin, Back}
@@ -13,27 +13,28 @@ use Rattle.dali_record.specs.Legal.{rules_state, txn_state}
 use Rattle.dali_region.specs.State.{RegionState}
 use Rattle.dali_region.specs.Answers.{cleaned}
 use Rattle.dali_store.specs.Store.{Files as Disk}
-use Rattle.dali_system.specs.Run.{Bases, no_image}
-use Rattle.dali_system.specs.State.{SystemState, CoreState, row_of, lock_of, hold_in, log_after}
-use Rattle.dali_system.specs.Keeps.{with_region}
-use Rattle.dali_system.specs.Regions.{Clean}
-use Rattle.dali_system.specs.Steps.{audit_record}
-use Rattle.dali_system.specs.Passes.{Audits}
-use Rattle.dali_system.specs.Audits.{IsAuditing, ends_audit}
-use Rattle.dali_system.specs.Courses.{Step, Begins, Operates, TakesBack, Frees, Answers, Commits, Ends, AuditBegins, AuditEnds, Locks, Refuses, OnRegion, Passes, Dies, Claims, GivesBack, Recovers, Stops, Checkpoints, Takes, Flushes, Faults, ReadFails, IsStep, AuditsBy, pass_now}
-use Rattle.dali_system.proofs.OneMore.{is_inside}
-use Rattle.dali_system.proofs.Courses.{step_goes}
-use Rattle.dali_system.proofs.OpenAudits.{audit_goes_on}
+use Rattle.dali_store.specs.declared.store.Store.{Ghosts}
+use Rattle.dali_runs.specs.Run.{Bases, no_image}
+use Rattle.dali_runs.specs.State.{SystemState, CoreState, row_of, lock_of, hold_in, log_after}
+use Rattle.dali_runs.specs.Keeps.{with_region}
+use Rattle.dali_runs.specs.Regions.{Clean}
+use Rattle.dali_runs.specs.Steps.{audit_record}
+use Rattle.dali_runs.specs.Passes.{Audits}
+use Rattle.dali_runs.specs.Audits.{IsAuditing, ends_audit}
+use Rattle.dali_runs.specs.Courses.{Step, Begins, Operates, TakesBack, Frees, Answers, Commits, Ends, AuditBegins, AuditEnds, Locks, Refuses, OnRegion, Passes, Dies, Claims, GivesBack, Recovers, Stops, Checkpoints, Takes, Flushes, Faults, ReadFails, IsStep, AuditsBy, pass_now}
+use Rattle.dali_runs.proofs.OneMore.{is_inside}
+use Rattle.dali_runs.proofs.Courses.{step_goes}
+use Rattle.dali_runs.proofs.OpenAudits.{audit_goes_on}
 use Rattle.dali_crash.specs.Checkpoints.{StoreStep, Does, Starts, Keeps as KeepsAll, Copies, Skips, WritesHead, Syncs, Turns, CopyFails, HeadFails, SyncFails, TurnFails, Finishes, Point, IsPointStep, IsPointCourse, moment_of, target, with_flag, with_fault, with_current}
 use Rattle.dali_crash.specs.StoreRuns.{StoreRun}
 use Rattle.dali_crash.specs.Traces.{Start}
 use Rattle.dali_crash.proofs.StoreRuns.{bare_store_course_keeps}
 use Rattle.dali_crash.proofs.Flags.{flag_changes}
-use Rattle.dali_vault.specs.Vaulted.{Vaulted}
+use Rattle.dali_core.specs.Vault.Vaulted.{Vaulted}
 use Rattle.dali_calls.specs.Others.{is_apart}
-use Rattle.dali_stepwise.specs.Beside.{LeavesBe}
-use Rattle.dali_stepwise.proofs.Waiting.{each_leaves, further}
-use Rattle.dali_steps.specs.Courses.{is_quiet}
+use Rattle.dali_calls.specs.Stepwise.Beside.{LeavesBe}
+use Rattle.dali_calls.proofs.StepwiseLemmas.Waiting.{each_leaves, further}
+use Rattle.dali_core.specs.Steps.Courses.{is_quiet}
 use Rattle.dali_checkpoint.proofs.Audited.{audits_at}
 use Rattle.dali_checkpoint.proofs.Others.{others_keep}
 use Rattle.dali_checkpoint.specs.Laws.{Keeps}
@@ -238,10 +239,10 @@ course_longer p q [] course = omega (arith, ap (λ (z : Point). length z.log) co
 course_longer p q (x ∷ xs) course = omega (arith, step_longer p course.0 x course.1, course_longer course.0 q xs course.2)
 
 -- ---- a checkpoint of another client
-module _ {V : Type 0} (told : V → Option Disk) (may_leave : V → Disk → Type 0) (faults : V → ℕ) where
+module _ {V : Type 0} (means : Ghosts V) where
   -- a step that calls no store and takes no frame
   pub step_image : (s : Start) (B : List (List Record)) (p q : Point) (x : Step) (gs : List RegionState) (y : SystemState) (v : Vaulted V) → is_quiet x ≡ true → IsPointStep p (Does x) q
-      → q.core.system.taken ≡ p.core.system.taken → p.core.system ≡ y → ImageStays told may_leave faults s B p gs y v B q q.core.regions q.core.system v
+      → q.core.system.taken ≡ p.core.system.taken → p.core.system ≡ y → ImageStays means s B p gs y v B q q.core.regions q.core.system v
   step_image s B p q x gs y v quiet step taken system = record {
     flag = flag_changes p q (Does x) step ∙ ap (λ (z : SystemState). z.checking) system;
     copying = λ runs c h is. keeps.copying gs y c h is;
@@ -249,12 +250,12 @@ module _ {V : Type 0} (told : V → Option Disk) (may_leave : V → Disk → Typ
     passes = λ runs c h n b is tell. keeps.passes gs y c h n b is tell;
   }
     where
-      keeps : Keeps told may_leave faults s B p q v
-      keeps = others_keep told may_leave faults s B p q v x quiet step taken
+      keeps : Keeps means s B p q v
+      keeps = others_keep means s B p q v x quiet step taken
 
   -- one behind another: a vault that runs in the end ran in between
   pub image_then : (s : Start) (B C D : List (List Record)) (p q r : Point) (gs hs ks : List RegionState) (y z x : SystemState) (v u t : Vaulted V) → (t.stopped ≡ false → u.stopped ≡ false)
-      → ImageStays told may_leave faults s B p gs y v C q hs z u → ImageStays told may_leave faults s C q hs z u D r ks x t → ImageStays told may_leave faults s B p gs y v D r ks x t
+      → ImageStays means s B p gs y v C q hs z u → ImageStays means s C q hs z u D r ks x t → ImageStays means s B p gs y v D r ks x t
   image_then s B C D p q r gs hs ks y z x v u t ran f g = record {
     flag = g.flag ∙ f.flag;
     copying = λ runs c h is. g.copying runs c h (f.copying (ran runs) c h is);
@@ -262,5 +263,5 @@ module _ {V : Type 0} (told : V → Option Disk) (may_leave : V → Disk → Typ
     passes = λ runs c h n b is tell. g.passes runs c h n b (f.settled (ran runs) c h n is) (f.passes (ran runs) c h n b is tell);
   }
 
-  pub image_still : (s : Start) (B : List (List Record)) (p : Point) (gs : List RegionState) (y : SystemState) (v : Vaulted V) → ImageStays told may_leave faults s B p gs y v B p gs y v
+  pub image_still : (s : Start) (B : List (List Record)) (p : Point) (gs : List RegionState) (y : SystemState) (v : Vaulted V) → ImageStays means s B p gs y v B p gs y v
   image_still s B p gs y v = record { flag = refl; copying = λ runs c h is. is; settled = λ runs c h n is. is; passes = λ runs c h n b is tell. tell }

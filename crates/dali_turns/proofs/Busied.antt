@@ -2,7 +2,7 @@
 use Rattle.std.proofs.Common.{◌≡◌, ℕ, Bool, true, false, not, List, [], ◌∷◌, ◌++◌, length, map, Option, Some, None, is_some, refl, ap, sym, subst, ◌∙◌, inl, inr, ⊎_elim, arith}
 use Rattle.std.specs.Prelude.{◌==◌, fold, take}
 use Rattle.dali_lists.proofs.Members.{all_append}
-use Rattle.dali_counts.proofs.Lists.{equal}
+use Rattle.dali_runs.proofs.CountsLemmas.Lists.{equal}
 use Rattle.dali_record.specs.declared.records.Call.{Call}
 use Rattle.dali_record.specs.declared.records.Record.{Record}
 use Rattle.dali_region.specs.State.{RegionState}
@@ -12,29 +12,30 @@ use Rattle.dali_locks.specs.declared.mode.Mode.{Mode}
 use Rattle.dali_locks.specs.declared.mode.LockAnswer.TheVariants.{Busy}
 use Rattle.dali_locks.specs.Locks.{both_shared, IsAnswer}
 use Rattle.dali_store.specs.Store.{Files as Disk}
-use Rattle.dali_system.specs.declared.refusals.Refusal.{Refusal}
-use Rattle.dali_system.specs.State.{SystemState, VaultState, CoreState, TxnRow, row_of, lock_of, state_in, state_of}
-use Rattle.dali_system.specs.Steps.{refused}
-use Rattle.dali_system.specs.Courses.{Step, Refuses}
+use Rattle.dali_store.specs.declared.store.Store.{Ghosts}
+use Rattle.dali_runs.specs.declared.refusals.Refusal.{Refusal}
+use Rattle.dali_runs.specs.State.{SystemState, VaultState, CoreState, TxnRow, row_of, lock_of, state_in, state_of}
+use Rattle.dali_runs.specs.Steps.{refused}
+use Rattle.dali_runs.specs.Courses.{Step, Refuses}
 use Rattle.dali_crash.specs.Checkpoints.{Does, Point}
 use Rattle.dali_crash.specs.Traces.{Start, bases_of}
-use Rattle.dali_vault.specs.Vaulted.{Vaulted}
+use Rattle.dali_core.specs.Vault.Vaulted.{Vaulted}
 use Rattle.dali_calls.specs.Steps.{call_key}
 use Rattle.dali_calls.specs.Plans.{Planned, mode_of}
-use Rattle.dali_single.specs.Single.{MayCall}
-use Rattle.dali_single.specs.Stands.{core, IsAtRest}
-use Rattle.dali_stepwise.specs.Stepwise.{IsNew, IsAsked}
+use Rattle.dali_calls.specs.Single.Single.{MayCall}
+use Rattle.dali_calls.specs.Single.Stands.{core, IsAtRest}
+use Rattle.dali_calls.specs.Stepwise.Stepwise.{IsNew, IsAsked}
 use Rattle.dali_transcripts.specs.Words.{Act, Calls}
 use Rattle.dali_transcripts.specs.World.{Deed, Yields, FindsDead, Happening, World, log_of, log_at, HasGot, lock_after, state_step, state_at, stop_at, is_dead_in, is_claimed_in}
 use Rattle.dali_transcripts.specs.Moves.{Spot, Within as IsWithin, at}
 use Rattle.dali_transcripts.specs.Causes.{IsAsking, AreAsking, IsHindered, IsRight, HasFoundDead, GetsBusy}
 use Rattle.dali_transcripts.specs.Rounds.{Standing}
 use Rattle.dali_transcripts.proofs.Growing.{askings}
-use Rattle.dali_deeds.specs.Deeds.{AreOf, refusal_now}
-use Rattle.dali_deeds.specs.Tells.{after}
-use Rattle.dali_clients.specs.Told.{act_of}
-use Rattle.dali_clients.specs.declared.command.Command.TheVariants.{Call as IsCall}
-use Rattle.dali_rounds.specs.Went.{is_open}
+use Rattle.dali_transcripts.specs.Telling.Deeds.{AreOf, refusal_now}
+use Rattle.dali_transcripts.specs.Telling.Tells.{after}
+use Rattle.dali_transcripts.specs.Clients.Told.{act_of}
+use Rattle.dali_transcripts.specs.declared.clients.command.Command.TheVariants.{Call as IsCall}
+use Rattle.dali_transactions.specs.Beside.Went.{is_open}
 use Rattle.dali_turns.specs.declared.client.Client.{Client}
 use Rattle.dali_turns.specs.declared.client.State.TheVariants.{Within}
 use Rattle.dali_turns.specs.declared.client.Transaction.{Transaction}
@@ -64,9 +65,9 @@ row_there : (o : Option TxnRow) → is_some o ≡ true → is_some (state_in o) 
 row_there (Some row) e = refl
 row_there None e = absurd (cc)
 
-module _ {V : Type 0} (told : V → Option Disk) (may_leave : V → Disk → Type 0) (faults : V → ℕ)
+module _ {V : Type 0} (means : Ghosts V)
     (precheck : Bool) (s : Start) (B : List (List Record)) (p : Point) (w : World) (a : Standing) (gs : List RegionState) (y : SystemState) (v : Vaulted V) (k : Client)
-    (x : Transaction) (call : Call) (more : List Act) (stood : Stood told may_leave faults s B p w precheck gs y v) (is : IsOf w a k) (fits : FitsWithin p w a (rest_of k) x) (next : rest_of k ≡ Calls call ∷ more)
+    (x : Transaction) (call : Call) (more : List Act) (stood : Stood means s B p w precheck gs y v) (is : IsOf w a k) (fits : FitsWithin p w a (rest_of k) x) (next : rest_of k ≡ Calls call ∷ more)
     (holder : ℕ) (answer : IsAnswer y.locks x.txn (call_key call) (mode_of call) (Busy holder)) (runs : y.stop ≡ None)
     (asks : (L : List Record) (rs : List RegionState) (o : VaultState) → IsNew (new_plan y.sizes x.txn call) → IsAtRest rs y (new_plan y.sizes x.txn call) → MayCall L (core rs y o) x.txn
     → IsAsked (Busy holder) L (core rs y o) (new_plan y.sizes x.txn call) (core rs (refused y x.txn (call_key call) (mode_of call) holder) o)) where
@@ -84,9 +85,9 @@ module _ {V : Type 0} (told : V → Option Disk) (may_leave : V → Disk → Typ
 
   asked : IsAsked (Busy holder) p.log p.core (new_plan y.sizes x.txn call) there
   asked =
-      subst (λ (c : CoreState). IsAsked (Busy holder) p.log c (new_plan y.sizes x.txn call) there) (core_there told may_leave faults precheck s B p w a gs y v k k x call more stood is fits next)
-      (asks p.log p.core.regions p.core.vault refl (rest_now told may_leave faults precheck s B p w a gs y v k k x call more stood is fits next)
-      (subst (λ (c : CoreState). MayCall p.log c x.txn) (sym (core_there told may_leave faults precheck s B p w a gs y v k k x call more stood is fits next)) (fits.may_call up)))
+      subst (λ (c : CoreState). IsAsked (Busy holder) p.log c (new_plan y.sizes x.txn call) there) (core_there means precheck s B p w a gs y v k k x call more stood is fits next)
+      (asks p.log p.core.regions p.core.vault refl (rest_now means precheck s B p w a gs y v k k x call more stood is fits next)
+      (subst (λ (c : CoreState). MayCall p.log c x.txn) (sym (core_there means precheck s B p w a gs y v k k x call more stood is fits next)) (fits.may_call up)))
 
   abbrev q : Point
   q = point_behind p step p.log there
@@ -117,7 +118,7 @@ module _ {V : Type 0} (told : V → Option Disk) (may_leave : V → Disk → Typ
       ∙ (sym (stood.tells.together.states holder) ∙ (ap (λ (c : CoreState). state_of c.system holder) stood.tells.core ∙ ap (λ (m : SystemState). state_of m holder) stood.stands.at.system))
 
   runs_then : (deed : Deed) → stop_at (after w a.client (deed ∷ []) there) (length w.happened) ≡ None
-  runs_then deed = runs_there (bases_of s) s.log w a.client p stood.stands.at.vault.run stood.tells (vault_stops told may_leave faults precheck s B p w gs y v stood) deed there up
+  runs_then deed = runs_there (bases_of s) s.log w a.client p stood.stands.at.vault.run stood.tells (vault_stops means precheck s B p w gs y v stood) deed there up
 
   number_then : (deed : Deed) → refusal.at ≡ length (log_at (after w a.client (deed ∷ []) there) (length w.happened))
   number_then deed = number ∙ sym (ap length (log_there w a.client deed there))
@@ -127,8 +128,8 @@ module _ {V : Type 0} (told : V → Option Disk) (may_leave : V → Disk → Typ
     abbrev now : World
     now = after w a.client (deed ∷ []) there
 
-    did : Did told may_leave faults precheck s B p w a.client (Within x) gs y v (deed ∷ []) B q gs z v
-    did = did_quietly told may_leave faults precheck s B p w gs y v stood a.client (Within x) q step (deed ∷ []) z gs refl (refl, (asked.0, refl), refl) are (right, tt) refl stood.stands.at.regions
+    did : Did means precheck s B p w a.client (Within x) gs y v (deed ∷ []) B q gs z v
+    did = did_quietly means precheck s B p w gs y v stood a.client (Within x) q step (deed ∷ []) z gs refl (refl, (asked.0, refl), refl) are (right, tt) refl stood.stands.at.regions
         refl stood.stands.dead (λ fs held. held) (record { unclaimed = stood.quiet.unclaimed }) (λ e. e)
         (λ t lives other. apart_from t other) (λ b other. refl)
       where
@@ -140,7 +141,7 @@ module _ {V : Type 0} (told : V → Option Disk) (may_leave : V → Disk → Typ
             by_test false e = ap not e
 
     late : AreAsking now a.client x.txn call a.pending
-    late = askings w now did.goes.grows a.client x.txn call a.pending (asking told may_leave faults precheck s B p w a gs y v k k x call more stood is fits next)
+    late = askings w now did.goes.grows a.client x.txn call a.pending (asking means precheck s B p w a gs y v k k x call more stood is fits next)
 
     had : HadRow now holder
     had = inl has_row
@@ -149,14 +150,14 @@ module _ {V : Type 0} (told : V → Option Disk) (may_leave : V → Disk → Typ
     still_of = record {
       client = is.client;
       lines = is.lines;
-      stands = so_far told may_leave faults precheck s B B p q w a (Within x) gs gs y z v v (deed ∷ []) k k is did;
+      stands = so_far means precheck s B B p q w a (Within x) gs gs y z v v (deed ∷ []) k k is did;
       others = others_on w now a (behind a w (deed ∷ [])) did.goes.grows y z system_there refl refl refl (λ e. e) (λ t lives. (lives, λ n. refl)) is.others;
     }
 
     -- and then the step goes on from there
-    then_went : (j : Client) (hs : List RegionState) (m : SystemState) (t : Vaulted V) (ok : Bool) → Went told may_leave faults precheck s B q now (behind a w (deed ∷ [])) (Within x) gs z v ok j hs m t
-        → Went told may_leave faults precheck s B p w a (Within x) gs y v ok j hs m t
-    then_went j hs m t ok two = did_went told may_leave faults precheck s B B p q w a (Within x) gs gs hs y z m v v t (deed ∷ []) ok j stood (still_ran told may_leave faults precheck s B q now (behind a w (deed ∷ [])) (Within x) gs hs z m v t ok j did.stood two) refl did two
+    then_went : (j : Client) (hs : List RegionState) (m : SystemState) (t : Vaulted V) (ok : Bool) → Went means precheck s B q now (behind a w (deed ∷ [])) (Within x) gs z v ok j hs m t
+        → Went means precheck s B p w a (Within x) gs y v ok j hs m t
+    then_went j hs m t ok two = did_went means precheck s B B p q w a (Within x) gs gs hs y z m v v t (deed ∷ []) ok j stood (still_ran means precheck s B q now (behind a w (deed ∷ [])) (Within x) gs hs z m v t ok j did.stood two) refl did two
 
   -- ---- the holder lives: it gives way
   module _ (alive : is_dead_in (state_of y holder) ≡ false) where
@@ -224,13 +225,13 @@ module _ {V : Type 0} (told : V → Option Disk) (may_leave : V → Disk → Typ
       runs = runs;
     }
 
-    pub yield_stood : Stood told may_leave faults s B q yields precheck gs z v
+    pub yield_stood : Stood means s B q yields precheck gs z v
     yield_stood = (did (Yields refusal) (inl refl) yield_right).stood
 
     pub yield_of : IsOf yields (behind a w (Yields refusal ∷ [])) k
     yield_of = still_of (Yields refusal) (inl refl) yield_right
 
-    pub yields_then : (j : Client) (hs : List RegionState) (m : SystemState) (t : Vaulted V) (ok : Bool) → YieldGoes told may_leave faults precheck x holder k gs z v ok j hs m t → Went told may_leave faults precheck s B p w a (Within x) gs y v ok j hs m t
+    pub yields_then : (j : Client) (hs : List RegionState) (m : SystemState) (t : Vaulted V) (ok : Bool) → YieldGoes means precheck x holder k gs z v ok j hs m t → Went means precheck s B p w a (Within x) gs y v ok j hs m t
     yields_then j hs m t ok goes = then_went (Yields refusal) (inl refl) yield_right j hs m t ok (goes s B q yields (behind a w (Yields refusal ∷ [])) yield_stood yield_of yield_fits)
 
   -- ---- its client died: it is cleaned up
@@ -268,17 +269,17 @@ module _ {V : Type 0} (told : V → Option Disk) (may_leave : V → Disk → Typ
       may_call = λ e. asked.1;
     }
 
-    pub find_stood : Stood told may_leave faults s B q finds precheck gs z v
+    pub find_stood : Stood means s B q finds precheck gs z v
     find_stood = (did (FindsDead refusal) (inr refl) find_right).stood
 
     pub find_of : IsOf finds (behind a w (FindsDead refusal ∷ [])) k
     find_of = still_of (FindsDead refusal) (inr refl) find_right
 
-    pub finds_then : (j : Client) (hs : List RegionState) (m : SystemState) (t : Vaulted V) (ok : Bool) → StepGoes told may_leave faults precheck (Within x) k gs z v ok j hs m t → Went told may_leave faults precheck s B p w a (Within x) gs y v ok j hs m t
+    pub finds_then : (j : Client) (hs : List RegionState) (m : SystemState) (t : Vaulted V) (ok : Bool) → StepGoes means precheck (Within x) k gs z v ok j hs m t → Went means precheck s B p w a (Within x) gs y v ok j hs m t
     finds_then j hs m t ok goes = then_went (FindsDead refusal) (inr refl) find_right j hs m t ok (goes s B q finds (behind a w (FindsDead refusal ∷ [])) find_stood find_of find_fits)
 
 -- ---- for the call
-module _ {V : Type 0} (told : V → Option Disk) (may_leave : V → Disk → Type 0) (faults : V → ℕ) (gs : List RegionState) (y : SystemState) (v : Vaulted V) (k : Client) (x : Transaction) (call : Call) (next : next_of k ≡ Some (IsCall call))
+module _ {V : Type 0} (means : Ghosts V) (gs : List RegionState) (y : SystemState) (v : Vaulted V) (k : Client) (x : Transaction) (call : Call) (next : next_of k ≡ Some (IsCall call))
     (plan : Planned) (same : plan ≡ new_plan y.sizes x.txn call) (holder : ℕ) (answer : IsAnswer y.locks x.txn (call_key call) (mode_of call) (Busy holder)) (runs : y.stop ≡ None)
     (z : SystemState) (system : z ≡ refused y x.txn (call_key call) (mode_of call) holder)
     (asks : (L : List Record) (rs : List RegionState) (o : VaultState) → IsNew plan → IsAtRest rs y plan → MayCall L (core rs y o) x.txn → IsAsked (Busy holder) L (core rs y o) plan (core rs z o)) where
@@ -288,14 +289,14 @@ module _ {V : Type 0} (told : V → Option Disk) (may_leave : V → Disk → Typ
       subst (λ (m : SystemState). (L : List Record) (rs : List RegionState) (o : VaultState) → IsNew (new_plan y.sizes x.txn call) → IsAtRest rs y (new_plan y.sizes x.txn call) → MayCall L (core rs y o) x.txn → IsAsked (Busy holder) L (core rs y o) (new_plan y.sizes x.txn call) (core rs m o)) system
       (subst (λ (m : Planned). (L : List Record) (rs : List RegionState) (o : VaultState) → IsNew m → IsAtRest rs y m → MayCall L (core rs y o) x.txn → IsAsked (Busy holder) L (core rs y o) m (core rs z o)) same asks)
 
-  pub yield_goes : is_dead_in (state_of y holder) ≡ false → (precheck : Bool) (ok : Bool) (j : Client) (hs : List RegionState) (m : SystemState) (t : Vaulted V) → YieldGoes told may_leave faults precheck x holder k gs z v ok j hs m t
-      → StepGoes told may_leave faults precheck (Within x) k gs y v ok j hs m t
+  pub yield_goes : is_dead_in (state_of y holder) ≡ false → (precheck : Bool) (ok : Bool) (j : Client) (hs : List RegionState) (m : SystemState) (t : Vaulted V) → YieldGoes means precheck x holder k gs z v ok j hs m t
+      → StepGoes means precheck (Within x) k gs y v ok j hs m t
   yield_goes alive precheck ok j hs m t goes s B p w a stood is fits =
-      yields_then told may_leave faults precheck s B p w a gs y v k x call (behind_next k) stood is fits (next_act k (IsCall call) next) holder answer runs asks_there alive j hs m t ok
-      (subst (λ (n : SystemState). YieldGoes told may_leave faults precheck x holder k gs n v ok j hs m t) system goes)
+      yields_then means precheck s B p w a gs y v k x call (behind_next k) stood is fits (next_act k (IsCall call) next) holder answer runs asks_there alive j hs m t ok
+      (subst (λ (n : SystemState). YieldGoes means precheck x holder k gs n v ok j hs m t) system goes)
 
-  pub clean_goes : is_dead_in (state_of y holder) ≡ true → (precheck : Bool) (ok : Bool) (j : Client) (hs : List RegionState) (m : SystemState) (t : Vaulted V) → StepGoes told may_leave faults precheck (Within x) k gs z v ok j hs m t
-      → StepGoes told may_leave faults precheck (Within x) k gs y v ok j hs m t
+  pub clean_goes : is_dead_in (state_of y holder) ≡ true → (precheck : Bool) (ok : Bool) (j : Client) (hs : List RegionState) (m : SystemState) (t : Vaulted V) → StepGoes means precheck (Within x) k gs z v ok j hs m t
+      → StepGoes means precheck (Within x) k gs y v ok j hs m t
   clean_goes died precheck ok j hs m t goes s B p w a stood is fits =
-      finds_then told may_leave faults precheck s B p w a gs y v k x call (behind_next k) stood is fits (next_act k (IsCall call) next) holder answer runs asks_there died j hs m t ok
-      (subst (λ (n : SystemState). StepGoes told may_leave faults precheck (Within x) k gs n v ok j hs m t) system goes)
+      finds_then means precheck s B p w a gs y v k x call (behind_next k) stood is fits (next_act k (IsCall call) next) holder answer runs asks_there died j hs m t ok
+      (subst (λ (n : SystemState). StepGoes means precheck (Within x) k gs n v ok j hs m t) system goes)

@@ -3,35 +3,36 @@ use Rattle.std.proofs.Common.{◌≡◌, ℕ, ◌-◌, Bool, true, false, not, L
 use Rattle.std.specs.Prelude.{◌==◌, drop}
 use Rattle.std.proofs.lemmas.Bool.{ltb-true, lt-ltb}
 use Rattle.std.proofs.lemmas.List.{map-append}
-use Rattle.dali_counts.proofs.Lists.{equal, self}
+use Rattle.dali_runs.proofs.CountsLemmas.Lists.{equal, self}
 use Rattle.dali_record.specs.declared.records.Answer.{Answer}
 use Rattle.dali_record.specs.declared.records.Record.{Record}
 use Rattle.dali_record.specs.declared.records.Record.TheVariants.{Done}
 use Rattle.dali_region.specs.State.{RegionState}
 use Rattle.dali_att.specs.declared.state.State.TheVariants.{Live}
 use Rattle.dali_store.specs.Store.{Files as Disk}
-use Rattle.dali_system.specs.State.{SystemState, VaultState, CoreState, state_of, lock_of}
-use Rattle.dali_system.specs.Steps.{done_logged}
-use Rattle.dali_system.specs.Courses.{Step, Answers as AnswersStep}
+use Rattle.dali_store.specs.declared.store.Store.{Ghosts}
+use Rattle.dali_runs.specs.State.{SystemState, VaultState, CoreState, state_of, lock_of}
+use Rattle.dali_runs.specs.Steps.{done_logged}
+use Rattle.dali_runs.specs.Courses.{Step, Answers as AnswersStep}
 use Rattle.dali_crash.specs.Checkpoints.{Point, copies_after}
 use Rattle.dali_crash.specs.Traces.{Start, bases_of}
-use Rattle.dali_vault.specs.Vaulted.{Vaulted}
+use Rattle.dali_core.specs.Vault.Vaulted.{Vaulted}
 use Rattle.dali_calls.specs.Plans.{Planned, goes_back}
 use Rattle.dali_calls.specs.Steps.{answer_of}
-use Rattle.dali_single.specs.Stands.{core, IsAtRest, AtPlan}
-use Rattle.dali_single.specs.Single.{MayCall}
-use Rattle.dali_stepwise.specs.Stepwise.{AnswersNow}
+use Rattle.dali_calls.specs.Single.Stands.{core, IsAtRest, AtPlan}
+use Rattle.dali_calls.specs.Single.Single.{MayCall}
+use Rattle.dali_calls.specs.Stepwise.Stepwise.{AnswersNow}
 use Rattle.dali_transcripts.specs.Words.{Act, Calls}
 use Rattle.dali_transcripts.specs.World.{Deed, Logs, World, logged_by, log_of}
 use Rattle.dali_transcripts.specs.Moves.{Within as IsWithin, at, Move, Answers, operations, left}
 use Rattle.dali_transcripts.specs.Causes.{HasCause, spares}
 use Rattle.dali_transcripts.specs.Rounds.{Standing, IsPlaced, by}
 use Rattle.dali_transcripts.proofs.Growing.{works}
-use Rattle.dali_deeds.specs.Tells.{after}
-use Rattle.dali_deeds.proofs.Told.{log_is}
-use Rattle.dali_clients.specs.Told.{act_of, said_of}
-use Rattle.dali_clients.specs.declared.command.Command.{Command}
-use Rattle.dali_clients.specs.declared.line.Line.TheVariants.{Answered}
+use Rattle.dali_transcripts.specs.Telling.Tells.{after}
+use Rattle.dali_transcripts.proofs.TellingLemmas.Told.{log_is}
+use Rattle.dali_transcripts.specs.Clients.Told.{act_of, said_of}
+use Rattle.dali_transcripts.specs.declared.clients.command.Command.{Command}
+use Rattle.dali_transcripts.specs.declared.clients.line.Line.TheVariants.{Answered}
 use Rattle.dali_turns.specs.declared.client.Client.{Client}
 use Rattle.dali_turns.specs.declared.client.State.{State}
 use Rattle.dali_turns.specs.declared.client.State.TheVariants.{Within, Calling}
@@ -41,7 +42,7 @@ use Rattle.dali_turns.specs.Stood.{IsQuiet, Stood}
 use Rattle.dali_turns.specs.Within.{AreSoFar, FitsWithin, FitsCalling}
 use Rattle.dali_turns.specs.Fits.{rest_of, IsOf, Owns, Fits}
 use Rattle.dali_turns.specs.Goes.{RowsTell, Went}
-use Rattle.dali_rounds.specs.Went.{is_open}
+use Rattle.dali_transactions.specs.Beside.Went.{is_open}
 use Rattle.dali_turns.proofs.Locking.{still_got}
 use Rattle.dali_turns.proofs.Refusals.{runs_there}
 use Rattle.dali_turns.proofs.Returning.{stays_of}
@@ -80,9 +81,9 @@ apart_from a b differ = by_test (a == b) refl
     by_test true e = absurd (differ (equal a b e))
     by_test false e = ap not e
 
-module _ {V : Type 0} (told : V → Option Disk) (may_leave : V → Disk → Type 0) (faults : V → ℕ)
+module _ {V : Type 0} (means : Ghosts V)
     (precheck : Bool) (s : Start) (B : List (List Record)) (p : Point) (w : World) (a : Standing) (gs : List RegionState) (y : SystemState) (v : Vaulted V) (k j : Client)
-    (x : Transaction) (plan : Planned) (stood : Stood told may_leave faults s B p w precheck gs y v) (is : IsOf w a k) (fits : FitsCalling p w a (rest_of k) x plan) where
+    (x : Transaction) (plan : Planned) (stood : Stood means s B p w precheck gs y v) (is : IsOf w a k) (fits : FitsCalling p w a (rest_of k) x plan) where
   abbrev u : VaultState
   u = p.core.vault
 
@@ -118,9 +119,9 @@ module _ {V : Type 0} (told : V → Option Disk) (may_leave : V → Disk → Typ
     calm : IsQuiet z
     calm = subst IsQuiet (sym logged) (record { unclaimed = stood.quiet.unclaimed })
 
-    did_answer : Did told may_leave faults precheck s B p w a.client (Calling x plan) gs y v deeds B q gs z v
-    did_answer = did_quietly told may_leave faults precheck s B p w gs y v stood a.client (Calling x plan) q step_at deeds z gs refl (refl, (at_core.step, refl), refl) same_deed
-        (runs_there (bases_of s) s.log w a.client p stood.stands.at.vault.run stood.tells (vault_stops told may_leave faults precheck s B p w gs y v stood) (Logs (Done x.txn fits.call given)) q.core at_core.step.0.runs, tt)
+    did_answer : Did means precheck s B p w a.client (Calling x plan) gs y v deeds B q gs z v
+    did_answer = did_quietly means precheck s B p w gs y v stood a.client (Calling x plan) q step_at deeds z gs refl (refl, (at_core.step, refl), refl) same_deed
+        (runs_there (bases_of s) s.log w a.client p stood.stands.at.vault.run stood.tells (vault_stops means precheck s B p w gs y v stood) (Logs (Done x.txn fits.call given)) q.core at_core.step.0.runs, tt)
         refl stood.stands.at.regions
         (ap (λ (m : SystemState). m.taken) logged) stood.stands.dead (λ fs held. held) calm (λ e. ap (λ (m : SystemState). is_some m.stop) logged ∙ e)
         (λ t lives other. apart_from plan.txn t (λ e. other (sym fits.plan_is.txn ∙ e))) (λ b other. refl)
@@ -162,12 +163,12 @@ module _ {V : Type 0} (told : V → Option Disk) (may_leave : V → Disk → Typ
         by_test true e = inl (subst (λ (n : State). Owns n t) (sym at_within) (equal x.txn t e))
         by_test false e = inr (ap (λ (m : SystemState). is_open (state_of m t)) (sym logged) ∙ lives, λ same. let yes : (x.txn == t) ≡ true = ap (λ n. n == t) same ∙ self t in let no : true ≡ false = sym yes ∙ e in absurd (cc))
 
-    pub answer_said : Finishes k (Within x) (Answered fits.call given) j → Went told may_leave faults precheck s B p w a (Calling x plan) gs y v true j gs z v
+    pub answer_said : Finishes k (Within x) (Answered fits.call given) j → Went means precheck s B p w a (Calling x plan) gs y v true j gs z v
     answer_said f =
-        went_by told may_leave faults precheck s B B p q w a (Calling x plan) gs gs y z v v deeds k j is did_answer move spot refl cause
+        went_by means precheck s B B p q w a (Calling x plan) gs gs y z v v deeds k j is did_answer move spot refl cause
         (ap (λ t. t.client) f.transcript) (ap (λ t. map said_of t.lines) f.transcript ∙ map-append said_of k.transcript.lines (Answered fits.call given ∷ []))
-        (subst (λ (n : State). Fits told may_leave faults s B q (after w a.client deeds q.core) gs z v (ended a move) (rest_of j) n) (sym f.stands) (fits_behind (rest_of j) (behind_one k.rest.now j.rest.now _ fits.more fits.calls f.rest)))
+        (subst (λ (n : State). Fits means s B q (after w a.client deeds q.core) gs z v (ended a move) (rest_of j) n) (sym f.stands) (fits_behind (rest_of j) (behind_one k.rest.now j.rest.now _ fits.more fits.calls f.rest)))
         (rows j.state f.stands)
 
-    pub answer_unsaid : Passes k (Within x) j → Went told may_leave faults precheck s B p w a (Calling x plan) gs y v false j gs z v
-    answer_unsaid f = went_silent told may_leave faults precheck s B B p q w a (Calling x plan) gs gs y z v v deeds k j is did_answer move spot refl cause f.transcript
+    pub answer_unsaid : Passes k (Within x) j → Went means precheck s B p w a (Calling x plan) gs y v false j gs z v
+    answer_unsaid f = went_silent means precheck s B B p q w a (Calling x plan) gs gs y z v v deeds k j is did_answer move spot refl cause f.transcript

@@ -4,28 +4,29 @@ use Rattle.std.specs.Prelude.{◌==◌, ◌&&◌, slice_get}
 use Rattle.std.specs.Option.{option_map}
 use Rattle.dali_att.specs.Table.{with_state}
 use Rattle.dali_bytes.specs.declared.error.OutOfMemory.{OutOfMemory as NoMemory}
-use Rattle.dali_counts.proofs.Lists.{equal}
+use Rattle.dali_runs.proofs.CountsLemmas.Lists.{equal}
 use Rattle.dali_record.specs.declared.records.Call.{Call}
 use Rattle.dali_region.specs.State.{RegionState}
 use Rattle.dali_att.specs.declared.state.State.{State as RowState}
 use Rattle.dali_att.specs.declared.state.State.TheVariants.{Live, Dead, Cleaning, Committed}
 use Rattle.dali_store.specs.Store.{Files as Disk}
-use Rattle.dali_system.specs.declared.causes.Cause.{Cause}
+use Rattle.dali_store.specs.declared.store.Store.{Ghosts}
+use Rattle.dali_runs.specs.declared.causes.Cause.{Cause}
 use Rattle.dali_region.specs.declared.LatchError.TheVariants.{DeadHolder}
-use Rattle.dali_system.specs.State.{SystemState, TxnRow, row_of, state_in, state_of, hold_in, hold_of}
-use Rattle.dali_system.specs.Wholes.{IsWhole, latched_in}
-use Rattle.dali_core.specs.declared.want.Want.TheVariants.{Region, Nothing}
-use Rattle.dali_single.specs.declared.error.StepError.TheVariants.{Latch}
-use Rattle.dali_single.specs.Refusals.{IsRefusedIn, IsRefusal}
-use Rattle.dali_vault.specs.Vaulted.{Vaulted}
+use Rattle.dali_runs.specs.State.{SystemState, TxnRow, row_of, state_in, state_of, hold_in, hold_of}
+use Rattle.dali_runs.specs.Wholes.{IsWhole, latched_in}
+use Rattle.dali_system.specs.declared.want.Want.TheVariants.{Region, Nothing}
+use Rattle.dali_calls.specs.declared.single.error.StepError.TheVariants.{Latch}
+use Rattle.dali_calls.specs.Single.Refusals.{IsRefusedIn, IsRefusal}
+use Rattle.dali_core.specs.Vault.Vaulted.{Vaulted}
 use Rattle.dali_clean.specs.Cleaned.{core, MayClean, IsDead}
 use Rattle.dali_clean.proofs.Cleaning.{whole_may_clean}
 use Rattle.dali_clean.specs.Others.{RowStays, OthersStay}
 use Rattle.dali_calls.specs.Plans.{Planned, is_back, want_of}
-use Rattle.dali_clients.specs.Told.{act_of}
-use Rattle.dali_clients.specs.declared.command.Command.TheVariants.{Call as IsCall}
-use Rattle.dali_clients.specs.declared.line.Why.{Why}
-use Rattle.dali_clients.specs.declared.line.Why.TheVariants.{Stopped as IsStopped}
+use Rattle.dali_transcripts.specs.Clients.Told.{act_of}
+use Rattle.dali_transcripts.specs.declared.clients.command.Command.TheVariants.{Call as IsCall}
+use Rattle.dali_transcripts.specs.declared.clients.line.Why.{Why}
+use Rattle.dali_transcripts.specs.declared.clients.line.Why.TheVariants.{Stopped as IsStopped}
 use Rattle.dali_transcripts.specs.World.{is_claimed_in}
 use Rattle.dali_transcripts.specs.Moves.{Within as IsWithin, at}
 use Rattle.dali_turns.specs.declared.client.Client.{Client}
@@ -44,7 +45,7 @@ use Rattle.dali_turns.proofs.CallSteps.{vault_still, back_wants, unasked_goes, u
 use Rattle.dali_turns.proofs.Cutting.{asked_cut, called_cut, turned_cut}
 use Rattle.dali_turns.proofs.Hindered.{stopped_said, stopped_unsaid}
 use Rattle.dali_turns.proofs.Reasons.{refused_on, dead_latch}
-use Rattle.dali_rounds.specs.Went.{is_open}
+use Rattle.dali_transactions.specs.Beside.Went.{is_open}
 
 -- ---- no transaction becomes live or committed in it
 live_row : (gs : List RegionState) (y : SystemState) (n : ℕ) (hs : List RegionState) (z : SystemState) → RowStays gs y n hs z → is_open (state_of z n) ≡ true → is_open (state_of y n) ≡ true
@@ -62,32 +63,32 @@ lived gs y t hs z o others there never n e = by_test (t == n) refl
     by_test true f = absurd (never (ap is_open (sym there) ∙ (ap (λ (m : ℕ). is_open (state_of z m)) (equal t n f) ∙ e)))
     by_test false f = live_row gs y n hs z (others.rows n f) e
 
-module _ {V : Type 0} (told : V → Option Disk) (may_leave : V → Disk → Type 0) (faults : V → ℕ) (precheck : Bool) (gs hs : List RegionState) (y z : SystemState) (v : Vaulted V) (k j : Client) (x : Transaction) (t : ℕ) (was : IsDead (state_of y t)) where
+module _ {V : Type 0} (means : Ghosts V) (precheck : Bool) (gs hs : List RegionState) (y z : SystemState) (v : Vaulted V) (k j : Client) (x : Transaction) (t : ℕ) (was : IsDead (state_of y t)) where
   -- ---- it is gone
   module _ (up : IsCleanedUp t gs y hs z) where
     gone_lived : (n : ℕ) → is_open (state_of z n) ≡ true → is_open (state_of y n) ≡ true
     gone_lived = lived gs y t hs z None up.others (ap state_in up.gone.0) (λ e. absurd (cc))
 
-    call_again : (call : Call) → next_of k ≡ Some (IsCall call) → Stays k (Within x) j → StepGoes told may_leave faults precheck (Within x) k gs y v true j hs z v
+    call_again : (call : Call) → next_of k ≡ Some (IsCall call) → Stays k (Within x) j → StepGoes means precheck (Within x) k gs y v true j hs z v
     call_again call next f s B p w a stood is fits =
         let lives = ap (λ (m : SystemState). state_of m x.txn) (sym stood.stands.at.system) ∙ fits.lives in
-        let (to, cleans) = cleaned told may_leave faults precheck s B p w gs y v stood a.client (Within x) x.txn lives t hs z (up.dead stood.stands.dead) up.others was up.ends up.gone in
-        cleaned_on told may_leave faults precheck s B p w a gs y v k x (Within x) stood is lives to hs z cleans gone_lived j f
-        (within_behind told may_leave faults precheck s B p w a gs y v k x (Within x) stood is lives to hs z cleans call (behind_next k) (next_act k (IsCall call) next) fits) (λ n e. e) (λ n e. e)
+        let (to, cleans) = cleaned means precheck s B p w gs y v stood a.client (Within x) x.txn lives t hs z (up.dead stood.stands.dead) up.others was up.ends up.gone in
+        cleaned_on means precheck s B p w a gs y v k x (Within x) stood is lives to hs z cleans gone_lived j f
+        (within_behind means precheck s B p w a gs y v k x (Within x) stood is lives to hs z cleans call (behind_next k) (next_act k (IsCall call) next) fits) (λ n e. e) (λ n e. e)
 
-    operate_again : (plan : Planned) → Stays k (Calling x plan) j → StepGoes told may_leave faults precheck (Calling x plan) k gs y v true j hs z v
+    operate_again : (plan : Planned) → Stays k (Calling x plan) j → StepGoes means precheck (Calling x plan) k gs y v true j hs z v
     operate_again plan f s B p w a stood is fits =
         let lives = ap (λ (m : SystemState). state_of m x.txn) (sym stood.stands.at.system) ∙ subst (λ n. state_of p.core.system n ≡ Some Live) fits.plan_is.txn fits.plan_is.rest.lives in
-        let (to, cleans) = cleaned told may_leave faults precheck s B p w gs y v stood a.client (Calling x plan) x.txn lives t hs z (up.dead stood.stands.dead) up.others was up.ends up.gone in
-        cleaned_on told may_leave faults precheck s B p w a gs y v k x (Calling x plan) stood is lives to hs z cleans gone_lived j f
-        (calling_behind told may_leave faults precheck s B p w a gs y v k x (Calling x plan) stood is lives to hs z cleans plan fits) (λ n e. e) (λ n e. e)
+        let (to, cleans) = cleaned means precheck s B p w gs y v stood a.client (Calling x plan) x.txn lives t hs z (up.dead stood.stands.dead) up.others was up.ends up.gone in
+        cleaned_on means precheck s B p w a gs y v k x (Calling x plan) stood is lives to hs z cleans gone_lived j f
+        (calling_behind means precheck s B p w a gs y v k x (Calling x plan) stood is lives to hs z cleans plan fits) (λ n e. e) (λ n e. e)
 
-    back_again : (plan : Planned) (why : Why) → Stays k (TakingBack x plan why) j → StepGoes told may_leave faults precheck (TakingBack x plan why) k gs y v true j hs z v
+    back_again : (plan : Planned) (why : Why) → Stays k (TakingBack x plan why) j → StepGoes means precheck (TakingBack x plan why) k gs y v true j hs z v
     back_again plan why f s B p w a stood is fits =
         let lives = ap (λ (m : SystemState). state_of m x.txn) (sym stood.stands.at.system) ∙ subst (λ n. state_of p.core.system n ≡ Some Live) fits.plan_is.txn fits.plan_is.rest.lives in
-        let (to, cleans) = cleaned told may_leave faults precheck s B p w gs y v stood a.client (TakingBack x plan why) x.txn lives t hs z (up.dead stood.stands.dead) up.others was up.ends up.gone in
-        cleaned_on told may_leave faults precheck s B p w a gs y v k x (TakingBack x plan why) stood is lives to hs z cleans gone_lived j f
-        (back_behind told may_leave faults precheck s B p w a gs y v k x (TakingBack x plan why) stood is lives to hs z cleans plan why fits) (λ n e. e) (λ n e. e)
+        let (to, cleans) = cleaned means precheck s B p w gs y v stood a.client (TakingBack x plan why) x.txn lives t hs z (up.dead stood.stands.dead) up.others was up.ends up.gone in
+        cleaned_on means precheck s B p w a gs y v k x (TakingBack x plan why) stood is lives to hs z cleans gone_lived j f
+        (back_behind means precheck s B p w a gs y v k x (TakingBack x plan why) stood is lives to hs z cleans plan why fits) (λ n e. e) (λ n e. e)
 
   -- ---- it is dead again
   module _ (left : IsLeftDead t gs y hs z) where
@@ -97,78 +98,78 @@ module _ {V : Type 0} (told : V → Option Disk) (may_leave : V → Disk → Typ
     -- since the engine is stopped
     module _ (stop : Cause) (stopped : y.stop ≡ Some stop) where
       module _ (call : Call) (next : next_of k ≡ Some (IsCall call)) where
-        within_then : (ok : Bool) → (z.stop ≡ Some stop → StepGoes told may_leave faults precheck (Within x) k hs z v ok j hs z v) → StepGoes told may_leave faults precheck (Within x) k gs y v ok j hs z v
+        within_then : (ok : Bool) → (z.stop ≡ Some stop → StepGoes means precheck (Within x) k hs z v ok j hs z v) → StepGoes means precheck (Within x) k gs y v ok j hs z v
         within_then ok goes s B p w a stood is fits =
             let lives = ap (λ (m : SystemState). state_of m x.txn) (sym stood.stands.at.system) ∙ fits.lives in
-            let (to, cleans) = cut_short told may_leave faults precheck s B p w gs y v stood a.client (Within x) x.txn lives t hs z (left.dead stood.stands.dead) left.others was left.left left.again stop stopped in
-            let still : z.stop ≡ Some stop = ap (λ (m : SystemState). m.stop) (sym cleans.did.stood.stands.at.system) ∙ stop_there told may_leave faults precheck s B p w a gs y v k x (Within x) stood is lives to hs z cleans stop (ap (λ (m : SystemState). m.stop) stood.stands.at.system ∙ stopped) in
-            cleaned_then told may_leave faults precheck s B p w a gs y v k x (Within x) stood is lives to hs z cleans left_lived j hs z v ok
-            (within_behind told may_leave faults precheck s B p w a gs y v k x (Within x) stood is lives to hs z cleans call (behind_next k) (next_act k (IsCall call) next) fits) (goes still)
+            let (to, cleans) = cut_short means precheck s B p w gs y v stood a.client (Within x) x.txn lives t hs z (left.dead stood.stands.dead) left.others was left.left left.again stop stopped in
+            let still : z.stop ≡ Some stop = ap (λ (m : SystemState). m.stop) (sym cleans.did.stood.stands.at.system) ∙ stop_there means precheck s B p w a gs y v k x (Within x) stood is lives to hs z cleans stop (ap (λ (m : SystemState). m.stop) stood.stands.at.system ∙ stopped) in
+            cleaned_then means precheck s B p w a gs y v k x (Within x) stood is lives to hs z cleans left_lived j hs z v ok
+            (within_behind means precheck s B p w a gs y v k x (Within x) stood is lives to hs z cleans call (behind_next k) (next_act k (IsCall call) next) fits) (goes still)
 
-        call_stopped : RefusesCall k x (IsStopped stop) j → StepGoes told may_leave faults precheck (Within x) k gs y v true j hs z v
-        call_stopped f = within_then true (λ still. unasked_goes told may_leave faults precheck hs z v k j x call next z stop refl still f)
+        call_stopped : RefusesCall k x (IsStopped stop) j → StepGoes means precheck (Within x) k gs y v true j hs z v
+        call_stopped f = within_then true (λ still. unasked_goes means precheck hs z v k j x call next z stop refl still f)
 
-        call_stopped_silently : (ok : Bool) → ok ≡ false → j.transcript ≡ k.transcript → StepGoes told may_leave faults precheck (Within x) k gs y v ok j hs z v
-        call_stopped_silently ok no_line same = within_then ok (λ still. unasked_silently told may_leave faults precheck hs z v k j x call next z ok stop refl no_line still same)
+        call_stopped_silently : (ok : Bool) → ok ≡ false → j.transcript ≡ k.transcript → StepGoes means precheck (Within x) k gs y v ok j hs z v
+        call_stopped_silently ok no_line same = within_then ok (λ still. unasked_silently means precheck hs z v k j x call next z ok stop refl no_line still same)
 
       module _ (plan : Planned) where
-        calling_then : (ok : Bool) → (z.stop ≡ Some stop → StepGoes told may_leave faults precheck (Calling x plan) k hs z v ok j hs z v) → StepGoes told may_leave faults precheck (Calling x plan) k gs y v ok j hs z v
+        calling_then : (ok : Bool) → (z.stop ≡ Some stop → StepGoes means precheck (Calling x plan) k hs z v ok j hs z v) → StepGoes means precheck (Calling x plan) k gs y v ok j hs z v
         calling_then ok goes s B p w a stood is fits =
             let lives = ap (λ (m : SystemState). state_of m x.txn) (sym stood.stands.at.system) ∙ subst (λ n. state_of p.core.system n ≡ Some Live) fits.plan_is.txn fits.plan_is.rest.lives in
-            let (to, cleans) = cut_short told may_leave faults precheck s B p w gs y v stood a.client (Calling x plan) x.txn lives t hs z (left.dead stood.stands.dead) left.others was left.left left.again stop stopped in
-            let still : z.stop ≡ Some stop = ap (λ (m : SystemState). m.stop) (sym cleans.did.stood.stands.at.system) ∙ stop_there told may_leave faults precheck s B p w a gs y v k x (Calling x plan) stood is lives to hs z cleans stop (ap (λ (m : SystemState). m.stop) stood.stands.at.system ∙ stopped) in
-            cleaned_then told may_leave faults precheck s B p w a gs y v k x (Calling x plan) stood is lives to hs z cleans left_lived j hs z v ok
-            (calling_behind told may_leave faults precheck s B p w a gs y v k x (Calling x plan) stood is lives to hs z cleans plan fits) (goes still)
+            let (to, cleans) = cut_short means precheck s B p w gs y v stood a.client (Calling x plan) x.txn lives t hs z (left.dead stood.stands.dead) left.others was left.left left.again stop stopped in
+            let still : z.stop ≡ Some stop = ap (λ (m : SystemState). m.stop) (sym cleans.did.stood.stands.at.system) ∙ stop_there means precheck s B p w a gs y v k x (Calling x plan) stood is lives to hs z cleans stop (ap (λ (m : SystemState). m.stop) stood.stands.at.system ∙ stopped) in
+            cleaned_then means precheck s B p w a gs y v k x (Calling x plan) stood is lives to hs z cleans left_lived j hs z v ok
+            (calling_behind means precheck s B p w a gs y v k x (Calling x plan) stood is lives to hs z cleans plan fits) (goes still)
 
-        operate_stopped : RefusesCall k x (IsStopped stop) j → StepGoes told may_leave faults precheck (Calling x plan) k gs y v true j hs z v
-        operate_stopped f = calling_then true (λ still s B p w a stood is fits. stopped_said told may_leave faults precheck s B p w a hs z v k j x plan stood is fits stop still f)
+        operate_stopped : RefusesCall k x (IsStopped stop) j → StepGoes means precheck (Calling x plan) k gs y v true j hs z v
+        operate_stopped f = calling_then true (λ still s B p w a stood is fits. stopped_said means precheck s B p w a hs z v k j x plan stood is fits stop still f)
 
-        operate_stopped_silently : (ok : Bool) → ok ≡ false → Passes k (Within x) j → StepGoes told may_leave faults precheck (Calling x plan) k gs y v ok j hs z v
+        operate_stopped_silently : (ok : Bool) → ok ≡ false → Passes k (Within x) j → StepGoes means precheck (Calling x plan) k gs y v ok j hs z v
         operate_stopped_silently ok no_line f =
-            subst (λ b. StepGoes told may_leave faults precheck (Calling x plan) k gs y v b j hs z v) (sym no_line)
-            (calling_then false (λ still s B p w a stood is fits. stopped_unsaid told may_leave faults precheck s B p w a hs z v k j x plan stood is fits stop still f))
+            subst (λ b. StepGoes means precheck (Calling x plan) k gs y v b j hs z v) (sym no_line)
+            (calling_then false (λ still s B p w a stood is fits. stopped_unsaid means precheck s B p w a hs z v k j x plan stood is fits stop still f))
 
       module _ (plan : Planned) (why : Why) where
-        back_then : (ok : Bool) → (z.stop ≡ Some stop → StepGoes told may_leave faults precheck (TakingBack x plan why) k hs z v ok j hs z v) → StepGoes told may_leave faults precheck (TakingBack x plan why) k gs y v ok j hs z v
+        back_then : (ok : Bool) → (z.stop ≡ Some stop → StepGoes means precheck (TakingBack x plan why) k hs z v ok j hs z v) → StepGoes means precheck (TakingBack x plan why) k gs y v ok j hs z v
         back_then ok goes s B p w a stood is fits =
             let lives = ap (λ (m : SystemState). state_of m x.txn) (sym stood.stands.at.system) ∙ subst (λ n. state_of p.core.system n ≡ Some Live) fits.plan_is.txn fits.plan_is.rest.lives in
-            let (to, cleans) = cut_short told may_leave faults precheck s B p w gs y v stood a.client (TakingBack x plan why) x.txn lives t hs z (left.dead stood.stands.dead) left.others was left.left left.again stop stopped in
-            let still : z.stop ≡ Some stop = ap (λ (m : SystemState). m.stop) (sym cleans.did.stood.stands.at.system) ∙ stop_there told may_leave faults precheck s B p w a gs y v k x (TakingBack x plan why) stood is lives to hs z cleans stop (ap (λ (m : SystemState). m.stop) stood.stands.at.system ∙ stopped) in
-            cleaned_then told may_leave faults precheck s B p w a gs y v k x (TakingBack x plan why) stood is lives to hs z cleans left_lived j hs z v ok
-            (back_behind told may_leave faults precheck s B p w a gs y v k x (TakingBack x plan why) stood is lives to hs z cleans plan why fits) (goes still)
+            let (to, cleans) = cut_short means precheck s B p w gs y v stood a.client (TakingBack x plan why) x.txn lives t hs z (left.dead stood.stands.dead) left.others was left.left left.again stop stopped in
+            let still : z.stop ≡ Some stop = ap (λ (m : SystemState). m.stop) (sym cleans.did.stood.stands.at.system) ∙ stop_there means precheck s B p w a gs y v k x (TakingBack x plan why) stood is lives to hs z cleans stop (ap (λ (m : SystemState). m.stop) stood.stands.at.system ∙ stopped) in
+            cleaned_then means precheck s B p w a gs y v k x (TakingBack x plan why) stood is lives to hs z cleans left_lived j hs z v ok
+            (back_behind means precheck s B p w a gs y v k x (TakingBack x plan why) stood is lives to hs z cleans plan why fits) (goes still)
 
-        back_stopped : RefusesCall k x (IsStopped stop) j → StepGoes told may_leave faults precheck (TakingBack x plan why) k gs y v true j hs z v
-        back_stopped f = back_then true (λ still. stuck_goes told may_leave faults precheck hs z v k j x plan why stop still f)
+        back_stopped : RefusesCall k x (IsStopped stop) j → StepGoes means precheck (TakingBack x plan why) k gs y v true j hs z v
+        back_stopped f = back_then true (λ still. stuck_goes means precheck hs z v k j x plan why stop still f)
 
-        back_stopped_silently : (ok : Bool) → ok ≡ false → j.transcript ≡ k.transcript → StepGoes told may_leave faults precheck (TakingBack x plan why) k gs y v ok j hs z v
-        back_stopped_silently ok no_line same = back_then ok (λ still. stuck_silently told may_leave faults precheck hs z v k j x plan why ok stop no_line still same)
+        back_stopped_silently : (ok : Bool) → ok ≡ false → j.transcript ≡ k.transcript → StepGoes means precheck (TakingBack x plan why) k gs y v ok j hs z v
+        back_stopped_silently ok no_line same = back_then ok (λ still. stuck_silently means precheck hs z v k j x plan why ok stop no_line still same)
 
     -- or for want of memory
     module _ (same : j.transcript ≡ k.transcript) where
-      call_half : (call : Call) → next_of k ≡ Some (IsCall call) → (ok : Bool) → ok ≡ false → StepGoes told may_leave faults precheck (Within x) k gs y v ok j hs z v
+      call_half : (call : Call) → next_of k ≡ Some (IsCall call) → (ok : Bool) → ok ≡ false → StepGoes means precheck (Within x) k gs y v ok j hs z v
       call_half call next ok no_line s B p w a stood is fits =
           let lives = ap (λ (m : SystemState). state_of m x.txn) (sym stood.stands.at.system) ∙ fits.lives in
-          let (to, half) = fallen_short told may_leave faults precheck s B p w gs y v stood a.client (Within x) x.txn lives t hs z (left.dead stood.stands.dead) left.others was left.left left.again in
+          let (to, half) = fallen_short means precheck s B p w gs y v stood a.client (Within x) x.txn lives t hs z (left.dead stood.stands.dead) left.others was left.left left.again in
           let more = next_act k (IsCall call) next in
-          subst (λ b. Went told may_leave faults precheck s B p w a (Within x) gs y v b j hs z v) (sym no_line)
-          (half_goes told may_leave faults precheck s B p w a gs y v k x (Within x) is to hs z half call (behind_next k) x.tries (map act_of x.commands.now) x.deadly fits.said
+          subst (λ b. Went means precheck s B p w a (Within x) gs y v b j hs z v) (sym no_line)
+          (half_goes means precheck s B p w a gs y v k x (Within x) is to hs z half call (behind_next k) x.tries (map act_of x.commands.now) x.deadly fits.said
           (fits.spot ∙ ap (at (IsWithin x.txn x.tries (map act_of x.commands.now) x.deadly fits.said)) more)
           (inl (asked_cut p w a (rest_of k) x call (behind_next k) more fits)) j same)
 
-      operate_half : (plan : Planned) (ok : Bool) → ok ≡ false → StepGoes told may_leave faults precheck (Calling x plan) k gs y v ok j hs z v
+      operate_half : (plan : Planned) (ok : Bool) → ok ≡ false → StepGoes means precheck (Calling x plan) k gs y v ok j hs z v
       operate_half plan ok no_line s B p w a stood is fits =
           let lives = ap (λ (m : SystemState). state_of m x.txn) (sym stood.stands.at.system) ∙ subst (λ n. state_of p.core.system n ≡ Some Live) fits.plan_is.txn fits.plan_is.rest.lives in
-          let (to, half) = fallen_short told may_leave faults precheck s B p w gs y v stood a.client (Calling x plan) x.txn lives t hs z (left.dead stood.stands.dead) left.others was left.left left.again in
-          subst (λ b. Went told may_leave faults precheck s B p w a (Calling x plan) gs y v b j hs z v) (sym no_line)
-          (half_goes told may_leave faults precheck s B p w a gs y v k x (Calling x plan) is to hs z half fits.call fits.more x.tries (map act_of x.commands.now) fits.deadly false
+          let (to, half) = fallen_short means precheck s B p w gs y v stood a.client (Calling x plan) x.txn lives t hs z (left.dead stood.stands.dead) left.others was left.left left.again in
+          subst (λ b. Went means precheck s B p w a (Calling x plan) gs y v b j hs z v) (sym no_line)
+          (half_goes means precheck s B p w a gs y v k x (Calling x plan) is to hs z half fits.call fits.more x.tries (map act_of x.commands.now) fits.deadly false
           (fits.spot ∙ ap (at (IsWithin x.txn x.tries (map act_of x.commands.now) fits.deadly false)) fits.calls) (inl (called_cut p w a (rest_of k) x plan fits)) j same)
 
-      back_half : (plan : Planned) (why : Why) (ok : Bool) → ok ≡ false → StepGoes told may_leave faults precheck (TakingBack x plan why) k gs y v ok j hs z v
+      back_half : (plan : Planned) (why : Why) (ok : Bool) → ok ≡ false → StepGoes means precheck (TakingBack x plan why) k gs y v ok j hs z v
       back_half plan why ok no_line s B p w a stood is fits =
           let lives = ap (λ (m : SystemState). state_of m x.txn) (sym stood.stands.at.system) ∙ subst (λ n. state_of p.core.system n ≡ Some Live) fits.plan_is.txn fits.plan_is.rest.lives in
-          let (to, half) = fallen_short told may_leave faults precheck s B p w gs y v stood a.client (TakingBack x plan why) x.txn lives t hs z (left.dead stood.stands.dead) left.others was left.left left.again in
-          subst (λ b. Went told may_leave faults precheck s B p w a (TakingBack x plan why) gs y v b j hs z v) (sym no_line)
-          (half_goes told may_leave faults precheck s B p w a gs y v k x (TakingBack x plan why) is to hs z half fits.call fits.more x.tries (map act_of x.commands.now) fits.deadly false
+          let (to, half) = fallen_short means precheck s B p w gs y v stood a.client (TakingBack x plan why) x.txn lives t hs z (left.dead stood.stands.dead) left.others was left.left left.again in
+          subst (λ b. Went means precheck s B p w a (TakingBack x plan why) gs y v b j hs z v) (sym no_line)
+          (half_goes means precheck s B p w a gs y v k x (TakingBack x plan why) is to hs z half fits.call fits.more x.tries (map act_of x.commands.now) fits.deadly false
           (fits.spot ∙ ap (at (IsWithin x.txn x.tries (map act_of x.commands.now) fits.deadly false)) fits.calls) (inr (turned_cut p w a (rest_of k) x plan why fits)) j same)
 
 -- ---- what a clean-up asks for
@@ -182,7 +183,7 @@ dead_there (Some Live) r e h = absurd (cc)
 dead_there (Some Committed) r e h = absurd (cc)
 dead_there None r e h = absurd (cc)
 
-module _ {V : Type 0} (told : V → Option Disk) (may_leave : V → Disk → Type 0) (faults : V → ℕ) (state : State) (k : Client) (gs : List RegionState) (y : SystemState) (v : Vaulted V) (may : MayStep told may_leave faults state k gs y v) where
+module _ {V : Type 0} (means : Ghosts V) (state : State) (k : Client) (gs : List RegionState) (y : SystemState) (v : Vaulted V) (may : MayStep means state k gs y v) where
   may_be_cleaned : (t : ℕ) → MayClean gs y t
   may_be_cleaned t =
       whole_may_clean gs y may.point.core.vault t
@@ -197,21 +198,21 @@ module _ {V : Type 0} (told : V → Option Disk) (may_leave : V → Disk → Typ
       let names : latched_in (state_of y held.0.txn) ≡ Some r = ap (λ (m : SystemState). latched_in (state_of m held.0.txn)) (sym may.stood.stands.at.system) ∙ may.stood.stands.whole.dead r held.0 at held.2 in
       subst (λ n. IsDead (state_of y n)) held.3 (dead_there (state_of y held.0.txn) r names (may.stood.quiet.unclaimed held.0.txn))
 
-module _ {V : Type 0} (told : V → Option Disk) (may_leave : V → Disk → Type 0) (faults : V → ℕ) (precheck : Bool) (state : State) (k j : Client) (gs hs : List RegionState) (y z : SystemState) (v u : Vaulted V) (ok : Bool) (t : ℕ) (vault : u ≡ v) where
+module _ {V : Type 0} (means : Ghosts V) (precheck : Bool) (state : State) (k j : Client) (gs hs : List RegionState) (y z : SystemState) (v u : Vaulted V) (ok : Bool) (t : ℕ) (vault : u ≡ v) where
   -- in a run it has what it asks for
-  cleans_in : (MayStep told may_leave faults state k gs y v → IsDead (state_of y t)) → (MayClean gs y t → IsDead (state_of y t) → StepGoes told may_leave faults precheck state k gs y v ok j hs z v)
-      → StepGoes told may_leave faults precheck state k gs y v ok j hs z u
+  cleans_in : (MayStep means state k gs y v → IsDead (state_of y t)) → (MayClean gs y t → IsDead (state_of y t) → StepGoes means precheck state k gs y v ok j hs z v)
+      → StepGoes means precheck state k gs y v ok j hs z u
   cleans_in dead goes =
-      in_a_run told may_leave faults precheck k gs y v ok j hs z u state
-      (λ may. vault_still told may_leave faults precheck state k j gs hs y z v u ok vault (goes (may_be_cleaned told may_leave faults state k gs y v may t) (dead may)))
+      in_a_run means precheck k gs y v ok j hs z u state
+      (λ may. vault_still means precheck state k j gs hs y z v u ok vault (goes (may_be_cleaned means state k gs y v may t) (dead may)))
 
-module _ {V : Type 0} (told : V → Option Disk) (may_leave : V → Disk → Type 0) (faults : V → ℕ) (k : Client) (gs : List RegionState) (y : SystemState) (v : Vaulted V) (x : Transaction) (plan : Planned) (why : Why) (may : MayStep told may_leave faults (TakingBack x plan why) k gs y v) where
+module _ {V : Type 0} (means : Ghosts V) (k : Client) (gs : List RegionState) (y : SystemState) (v : Vaulted V) (x : Transaction) (plan : Planned) (why : Why) (may : MayStep means (TakingBack x plan why) k gs y v) where
   pub back_holder_is_dead : (precheck : Bool) (t : ℕ) → IsRefusal precheck plan gs y (Latch (DeadHolder t)) → IsDead (state_of y t)
   back_holder_is_dead precheck t refused = by_wants (back_wants plan may.fits.plan_is.phase_is)
     where
       by_wants : (want_of plan ≡ Nothing) ⊎ ((r : ℕ) × (want_of plan ≡ Region r)) → IsDead (state_of y t)
       by_wants (inl none) = absurd (subst (λ m. IsRefusedIn m precheck plan gs y (Latch (DeadHolder t))) none refused)
-      by_wants (inr (r, want)) = holder_is_dead told may_leave faults (TakingBack x plan why) k gs y v may precheck plan r t want refused
+      by_wants (inr (r, want)) = holder_is_dead means (TakingBack x plan why) k gs y v may precheck plan r t want refused
 
 -- ---- by what became of it
 module _ (t : ℕ) (x : Transaction) (state : State) (k j : Client) (gs hs : List RegionState) (y z : SystemState) where
@@ -223,33 +224,33 @@ module _ (t : ℕ) (x : Transaction) (state : State) (k j : Client) (gs hs : Lis
   clears_silently (Ok went) err cause stopped left passes = absurd (cc)
   clears_silently (Err e) err cause stopped left passes = inr (cause, stopped, left, passes)
 
-module _ {V : Type 0} (told : V → Option Disk) (may_leave : V → Disk → Type 0) (faults : V → ℕ) (precheck : Bool) (k j : Client) (gs hs : List RegionState) (y z : SystemState) (v u : Vaulted V) (x : Transaction) (t : ℕ) (vault : u ≡ v) where
-  pub call_clears : (call : Call) (next : next_of k ≡ Some (IsCall call)) → (MayStep told may_leave faults (Within x) k gs y v → IsDead (state_of y t)) → (r : Result Bool NoMemory) → ClearsWay t x (Within x) k gs y r j hs z → StepGoes told may_leave faults precheck (Within x) k gs y v (is_ok r) j hs z u
+module _ {V : Type 0} (means : Ghosts V) (precheck : Bool) (k j : Client) (gs hs : List RegionState) (y z : SystemState) (v u : Vaulted V) (x : Transaction) (t : ℕ) (vault : u ≡ v) where
+  pub call_clears : (call : Call) (next : next_of k ≡ Some (IsCall call)) → (MayStep means (Within x) k gs y v → IsDead (state_of y t)) → (r : Result Bool NoMemory) → ClearsWay t x (Within x) k gs y r j hs z → StepGoes means precheck (Within x) k gs y v (is_ok r) j hs z u
   call_clears call next dead (Ok went) (inl (runs, up, stays)) =
-      cleans_in told may_leave faults precheck (Within x) k j gs hs y z v u true t vault dead (λ clean was. call_again told may_leave faults precheck gs hs y z v k j x t was up call next stays)
+      cleans_in means precheck (Within x) k j gs hs y z v u true t vault dead (λ clean was. call_again means precheck gs hs y z v k j x t was up call next stays)
   call_clears call next dead (Ok went) (inr (cause, stopped, left, refuses)) =
-      cleans_in told may_leave faults precheck (Within x) k j gs hs y z v u true t vault dead (λ clean was. call_stopped told may_leave faults precheck gs hs y z v k j x t was (left clean) cause stopped call next refuses)
+      cleans_in means precheck (Within x) k j gs hs y z v u true t vault dead (λ clean was. call_stopped means precheck gs hs y z v k j x t was (left clean) cause stopped call next refuses)
   call_clears call next dead (Err e) (inl (left, same)) =
-      cleans_in told may_leave faults precheck (Within x) k j gs hs y z v u false t vault dead (λ clean was. call_half told may_leave faults precheck gs hs y z v k j x t was (left clean was).1 (ap (λ (n : Client). n.transcript) same) call next false refl)
+      cleans_in means precheck (Within x) k j gs hs y z v u false t vault dead (λ clean was. call_half means precheck gs hs y z v k j x t was (left clean was).1 (ap (λ (n : Client). n.transcript) same) call next false refl)
   call_clears call next dead (Err e) (inr (cause, stopped, left, passes)) =
-      cleans_in told may_leave faults precheck (Within x) k j gs hs y z v u false t vault dead (λ clean was. call_stopped_silently told may_leave faults precheck gs hs y z v k j x t was (left clean) cause stopped call next false refl passes.transcript)
+      cleans_in means precheck (Within x) k j gs hs y z v u false t vault dead (λ clean was. call_stopped_silently means precheck gs hs y z v k j x t was (left clean) cause stopped call next false refl passes.transcript)
 
-  pub operate_clears : (plan : Planned) → (MayStep told may_leave faults (Calling x plan) k gs y v → IsDead (state_of y t)) → (r : Result Bool NoMemory) → ClearsWay t x (Calling x plan) k gs y r j hs z → StepGoes told may_leave faults precheck (Calling x plan) k gs y v (is_ok r) j hs z u
+  pub operate_clears : (plan : Planned) → (MayStep means (Calling x plan) k gs y v → IsDead (state_of y t)) → (r : Result Bool NoMemory) → ClearsWay t x (Calling x plan) k gs y r j hs z → StepGoes means precheck (Calling x plan) k gs y v (is_ok r) j hs z u
   operate_clears plan dead (Ok went) (inl (runs, up, stays)) =
-      cleans_in told may_leave faults precheck (Calling x plan) k j gs hs y z v u true t vault dead (λ clean was. operate_again told may_leave faults precheck gs hs y z v k j x t was up plan stays)
+      cleans_in means precheck (Calling x plan) k j gs hs y z v u true t vault dead (λ clean was. operate_again means precheck gs hs y z v k j x t was up plan stays)
   operate_clears plan dead (Ok went) (inr (cause, stopped, left, refuses)) =
-      cleans_in told may_leave faults precheck (Calling x plan) k j gs hs y z v u true t vault dead (λ clean was. operate_stopped told may_leave faults precheck gs hs y z v k j x t was (left clean) cause stopped plan refuses)
+      cleans_in means precheck (Calling x plan) k j gs hs y z v u true t vault dead (λ clean was. operate_stopped means precheck gs hs y z v k j x t was (left clean) cause stopped plan refuses)
   operate_clears plan dead (Err e) (inl (left, same)) =
-      cleans_in told may_leave faults precheck (Calling x plan) k j gs hs y z v u false t vault dead (λ clean was. operate_half told may_leave faults precheck gs hs y z v k j x t was (left clean was).1 (ap (λ (n : Client). n.transcript) same) plan false refl)
+      cleans_in means precheck (Calling x plan) k j gs hs y z v u false t vault dead (λ clean was. operate_half means precheck gs hs y z v k j x t was (left clean was).1 (ap (λ (n : Client). n.transcript) same) plan false refl)
   operate_clears plan dead (Err e) (inr (cause, stopped, left, passes)) =
-      cleans_in told may_leave faults precheck (Calling x plan) k j gs hs y z v u false t vault dead (λ clean was. operate_stopped_silently told may_leave faults precheck gs hs y z v k j x t was (left clean) cause stopped plan false refl passes)
+      cleans_in means precheck (Calling x plan) k j gs hs y z v u false t vault dead (λ clean was. operate_stopped_silently means precheck gs hs y z v k j x t was (left clean) cause stopped plan false refl passes)
 
-  pub back_clears : (plan : Planned) (why : Why) → (MayStep told may_leave faults (TakingBack x plan why) k gs y v → IsDead (state_of y t)) → (r : Result Bool NoMemory) → ClearsWay t x (TakingBack x plan why) k gs y r j hs z → StepGoes told may_leave faults precheck (TakingBack x plan why) k gs y v (is_ok r) j hs z u
+  pub back_clears : (plan : Planned) (why : Why) → (MayStep means (TakingBack x plan why) k gs y v → IsDead (state_of y t)) → (r : Result Bool NoMemory) → ClearsWay t x (TakingBack x plan why) k gs y r j hs z → StepGoes means precheck (TakingBack x plan why) k gs y v (is_ok r) j hs z u
   back_clears plan why dead (Ok went) (inl (runs, up, stays)) =
-      cleans_in told may_leave faults precheck (TakingBack x plan why) k j gs hs y z v u true t vault dead (λ clean was. back_again told may_leave faults precheck gs hs y z v k j x t was up plan why stays)
+      cleans_in means precheck (TakingBack x plan why) k j gs hs y z v u true t vault dead (λ clean was. back_again means precheck gs hs y z v k j x t was up plan why stays)
   back_clears plan why dead (Ok went) (inr (cause, stopped, left, refuses)) =
-      cleans_in told may_leave faults precheck (TakingBack x plan why) k j gs hs y z v u true t vault dead (λ clean was. back_stopped told may_leave faults precheck gs hs y z v k j x t was (left clean) cause stopped plan why refuses)
+      cleans_in means precheck (TakingBack x plan why) k j gs hs y z v u true t vault dead (λ clean was. back_stopped means precheck gs hs y z v k j x t was (left clean) cause stopped plan why refuses)
   back_clears plan why dead (Err e) (inl (left, same)) =
-      cleans_in told may_leave faults precheck (TakingBack x plan why) k j gs hs y z v u false t vault dead (λ clean was. back_half told may_leave faults precheck gs hs y z v k j x t was (left clean was).1 (ap (λ (n : Client). n.transcript) same) plan why false refl)
+      cleans_in means precheck (TakingBack x plan why) k j gs hs y z v u false t vault dead (λ clean was. back_half means precheck gs hs y z v k j x t was (left clean was).1 (ap (λ (n : Client). n.transcript) same) plan why false refl)
   back_clears plan why dead (Err e) (inr (cause, stopped, left, passes)) =
-      cleans_in told may_leave faults precheck (TakingBack x plan why) k j gs hs y z v u false t vault dead (λ clean was. back_stopped_silently told may_leave faults precheck gs hs y z v k j x t was (left clean) cause stopped plan why false refl passes.transcript)
+      cleans_in means precheck (TakingBack x plan why) k j gs hs y z v u false t vault dead (λ clean was. back_stopped_silently means precheck gs hs y z v k j x t was (left clean) cause stopped plan why false refl passes.transcript)

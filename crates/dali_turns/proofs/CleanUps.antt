@@ -7,7 +7,7 @@ use Rattle.std.proofs.lemmas.Bool.{ne_eqb}
 use Rattle.std.proofs.lemmas.Option.{none-some, same_Some}
 use Rattle.dali_lists.proofs.Members.{all_map}
 use Rattle.dali_lists.proofs.Tests.{not_both_ways}
-use Rattle.dali_counts.proofs.Lists.{equal, self}
+use Rattle.dali_runs.proofs.CountsLemmas.Lists.{equal, self}
 use Rattle.dali_record.specs.declared.operations.Pending.{Pending}
 use Rattle.dali_record.specs.declared.records.Record.{Record}
 use Rattle.dali_record.specs.declared.records.Record.TheVariants.{Ended}
@@ -15,35 +15,36 @@ use Rattle.dali_region.specs.declared.Hold.{Hold}
 use Rattle.dali_region.specs.State.{RegionState, taken_back}
 use Rattle.dali_att.specs.declared.state.State.TheVariants.{Live, Dead, Cleaning}
 use Rattle.dali_store.specs.Store.{Files as Disk}
-use Rattle.dali_system.specs.declared.causes.Cause.{Cause}
-use Rattle.dali_system.specs.State.{SystemState, CoreState, row_of, state_in, state_of, hold_in, hold_of}
-use Rattle.dali_system.specs.Keeps.{MayGiveBack}
-use Rattle.dali_system.specs.Wholes.{latched_in}
-use Rattle.dali_system.specs.Courses.{Step, TakesBack, Ends, OnRegion, Claims, GivesBack, Recovers}
+use Rattle.dali_store.specs.declared.store.Store.{Ghosts}
+use Rattle.dali_runs.specs.declared.causes.Cause.{Cause}
+use Rattle.dali_runs.specs.State.{SystemState, CoreState, row_of, state_in, state_of, hold_in, hold_of}
+use Rattle.dali_runs.specs.Keeps.{MayGiveBack}
+use Rattle.dali_runs.specs.Wholes.{latched_in}
+use Rattle.dali_runs.specs.Courses.{Step, TakesBack, Ends, OnRegion, Claims, GivesBack, Recovers}
 use Rattle.dali_crash.specs.Checkpoints.{Does, Point, IsPointStep, IsPointCourse}
 use Rattle.dali_crash.specs.Traces.{Start, bases_of}
-use Rattle.dali_vault.specs.Vaulted.{Vaulted}
+use Rattle.dali_core.specs.Vault.Vaulted.{Vaulted}
 use Rattle.dali_calls.specs.Others.{IsGone}
 use Rattle.dali_calls.proofs.Operating.{held_of}
-use Rattle.dali_single.proofs.Lists.{all_both}
+use Rattle.dali_calls.proofs.SingleLemmas.Lists.{all_both}
 use Rattle.dali_clean.specs.Steps.{AreBack, recovers}
 use Rattle.dali_clean.specs.Cleaned.{AreDead, IsDead, Ends as EndsTxn, GivesBack as LeavesTxn}
 use Rattle.dali_clean.specs.Others.{OthersStay}
-use Rattle.dali_stepwise.specs.Beside.{LeavesBe}
-use Rattle.dali_ends.specs.Ended.{AreOfEnd}
-use Rattle.dali_rounds.specs.Went.{Went as GoneOn}
-use Rattle.dali_rounds.proofs.Cleaning.{clean_goes, left_goes}
+use Rattle.dali_calls.specs.Stepwise.Beside.{LeavesBe}
+use Rattle.dali_transactions.specs.Ended.{AreOfEnd}
+use Rattle.dali_transactions.specs.Beside.Went.{Went as GoneOn}
+use Rattle.dali_transactions.proofs.BesideLemmas.Cleaning.{clean_goes, left_goes}
 use Rattle.dali_transcripts.specs.World.{Deed, Logs, Claims as ClaimsTxn, GivesBack as GivesTxnBack, World, logged_by, log_of, claimed, is_dead_in, is_claimed_in, claimer_step, state_at, stop_at}
 use Rattle.dali_transcripts.specs.Moves.{Receipt}
 use Rattle.dali_transcripts.specs.Causes.{LetsGo, IsAside, AreAside, IsCutAside, undos_behind}
 use Rattle.dali_transcripts.specs.Laws.{receipts_from}
 use Rattle.dali_transcripts.specs.Rounds.{by}
 use Rattle.dali_transcripts.proofs.Growing.{asides}
-use Rattle.dali_deeds.specs.Deeds.{AreOf}
-use Rattle.dali_deeds.specs.Tells.{after, AreRightThen, Goes}
-use Rattle.dali_deeds.specs.Laws.{AreOfCourse}
-use Rattle.dali_deeds.proofs.Told.{log_is}
-use Rattle.dali_deeds.proofs.Courses.{after_after}
+use Rattle.dali_transcripts.specs.Telling.Deeds.{AreOf}
+use Rattle.dali_transcripts.specs.Telling.Tells.{after, AreRightThen, Goes}
+use Rattle.dali_transcripts.specs.Telling.Laws.{AreOfCourse}
+use Rattle.dali_transcripts.proofs.TellingLemmas.Told.{log_is}
+use Rattle.dali_transcripts.proofs.TellingLemmas.Courses.{after_after}
 use Rattle.dali_turns.specs.declared.client.State.{State}
 use Rattle.dali_turns.specs.Stood.{Stood}
 use Rattle.dali_turns.proofs.Deeds.{course_tells, stop_is_told}
@@ -55,7 +56,7 @@ use Rattle.dali_turns.proofs.Undoing.{undone_on, undone_apart}
 use Rattle.dali_turns.proofs.Along.{end_out, out_both, did_calm}
 use Rattle.dali_turns.proofs.Closing.{unclaimed_then}
 use Rattle.dali_turns.proofs.Cutting.{cut_of}
-use Rattle.dali_rounds.specs.Went.{is_open}
+use Rattle.dali_transactions.specs.Beside.Went.{is_open}
 
 -- ---- the steps
 pub back_end : (t : ℕ) (xs : List Step) → AreBack t xs → AreOfEnd t xs
@@ -71,12 +72,12 @@ clean_out b t None back x are e = subst (λ xs. list_all (is_out_of b) xs ≡ tr
 clean_out b t (Some r) back x are e = subst (λ xs. list_all (is_out_of b) xs ≡ true) (sym (map-append Does back (x ∷ []))) (out_both b (map Does back) (Does x ∷ []) (end_out b t back are) (ap (λ c. c && true) e))
 
 -- ---- what the client does
-module _ {V : Type 0} (told : V → Option Disk) (may_leave : V → Disk → Type 0) (faults : V → ℕ)
+module _ {V : Type 0} (means : Ghosts V)
     (precheck : Bool) (s : Start) (B : List (List Record)) (p : Point) (w : World) (gs : List RegionState) (y : SystemState) (v : Vaulted V) (c : ℕ) (state : State) (m : ℕ) (to : Point) (hs : List RegionState) (z : SystemState) where
   -- a clean-up to its end, or one that a stop cut short
   pub record CleansUp : Type 0 where
     pub deeds : List Deed
-    pub did : Did told may_leave faults precheck s B p w c state gs y v deeds B to hs z v
+    pub did : Did means precheck s B p w c state gs y v deeds B to hs z v
     pub aside : AreAside (after w c deeds to.core) c m (receipts_from (length (log_of w)) deeds)
     pub still : (us : List Pending) → undos_behind m us (receipts_from (length (log_of w)) deeds) ≡ us
     pub leaves : (u : ℕ) → is_open (state_of y u) ≡ true → LeavesBe u p.log p.core to.log to.core
@@ -84,12 +85,12 @@ module _ {V : Type 0} (told : V → Option Disk) (may_leave : V → Disk → Typ
   -- memory was refused
   pub record CleansHalf : Type 0 where
     pub deeds : List Deed
-    pub did : Did told may_leave faults precheck s B p w c state gs y v deeds B to hs z v
+    pub did : Did means precheck s B p w c state gs y v deeds B to hs z v
     pub cut : AllByRecursion (IsCutAside (after w c deeds to.core) c m) (receipts_from (length (log_of w)) deeds)
     pub still : (us : List Pending) → undos_behind m us (receipts_from (length (log_of w)) deeds) ≡ us
 
-module _ {V : Type 0} (told : V → Option Disk) (may_leave : V → Disk → Type 0) (faults : V → ℕ)
-    (precheck : Bool) (s : Start) (B : List (List Record)) (p : Point) (w : World) (gs : List RegionState) (y : SystemState) (v : Vaulted V) (stood : Stood told may_leave faults s B p w precheck gs y v)
+module _ {V : Type 0} (means : Ghosts V)
+    (precheck : Bool) (s : Start) (B : List (List Record)) (p : Point) (w : World) (gs : List RegionState) (y : SystemState) (v : Vaulted V) (stood : Stood means s B p w precheck gs y v)
     (c : ℕ) (state : State) (m : ℕ) (lives : state_of y m ≡ Some Live) (t : ℕ) (latched : Option ℕ) (was : state_of y t ≡ Some (Dead latched)) where
   first_at : At (bases_of s) s.log w p
   first_at = record { run = stood.stands.at.vault.run; tells = stood.tells; whole = stood.stands.whole }
@@ -184,7 +185,7 @@ module _ {V : Type 0} (told : V → Option Disk) (may_leave : V → Disk → Typ
         by_latch (Some r) e course = a_latch r e course
 
   -- ---- a step behind it is its last one
-  module _ (own : List Record) (hs : List RegionState) (z : SystemState) (g : GoneOn told may_leave faults t own s B p gs hs z v) (others : OthersStay gs y t hs z) (back : List Step) (undone : AreBack t back)
+  module _ (own : List Record) (hs : List RegionState) (z : SystemState) (g : GoneOn means t own s B p gs hs z v) (others : OthersStay gs y t hs z) (back : List Step) (undone : AreBack t back)
       (records : List Record) (backs : AreBacks t records) (x : Step) (steps_are : g.steps ≡ Claims t ∷ (recovers latched ++ (back ++ x ∷ []))) where
     abbrev front : List Step
     front = Claims t ∷ (recovers latched ++ back)
@@ -239,8 +240,8 @@ module _ {V : Type 0} (told : V → Option Disk) (may_leave : V → Disk → Typ
             (subst (λ xs. AreOfCourse w c p xs g.to (first.ds ++ one ∷ [])) (sym (map-append Does front (x ∷ [])))
             (courses_told w c p mid g.to (map Does front) (Does x ∷ []) first.ds (one ∷ []) stood.tells.core first.are (g.to, one ∷ [], [], last_step, told_by, right, (refl, refl), refl)))
 
-        did_all : is_claimed_in (state_of z t) ≡ false → ((b : ℕ) → is_out_of b (Does x) ≡ true) → Did told may_leave faults precheck s B p w c state gs y v (first.ds ++ one ∷ []) B g.to hs z v
-        did_all unclaimed e = did_calm told may_leave faults precheck s B p w gs y v stood c state t own hs z g (first.ds ++ one ∷ []) told_all
+        did_all : is_claimed_in (state_of z t) ≡ false → ((b : ℕ) → is_out_of b (Does x) ≡ true) → Did means precheck s B p w c state gs y v (first.ds ++ one ∷ []) B g.to hs z v
+        did_all unclaimed e = did_calm means precheck s B p w gs y v stood c state t own hs z g (first.ds ++ one ∷ []) told_all
             (unclaimed_then gs hs y z t others stood.quiet unclaimed) (λ u lives other. apart_from u lives) (λ b. out b (e b))
 
         receipts_all : receipts_from (length (log_of w)) (first.ds ++ one ∷ []) ≡ receipts_from (length (log_of w)) first.ds ++ (length (log_of between), one) ∷ []
@@ -268,7 +269,7 @@ module _ {V : Type 0} (told : V → Option Disk) (may_leave : V → Disk → Typ
             (all_map (IsAside late c m) P more (receipts_from (length (log_of w)) first.ds) (asides between late last_goes.grows c m (receipts_from (length (log_of w)) first.ds) front_aside)) (side, tt))
 
   -- ---- to its end
-  module _ (own : List Record) (hs : List RegionState) (z : SystemState) (g : GoneOn told may_leave faults t own s B p gs hs z v) (others : OthersStay gs y t hs z) (back : List Step) (undone : AreBack t back)
+  module _ (own : List Record) (hs : List RegionState) (z : SystemState) (g : GoneOn means t own s B p gs hs z v) (others : OthersStay gs y t hs z) (back : List Step) (undone : AreBack t back)
       (records : List Record) (backs : AreBacks t records) (steps_are : g.steps ≡ Claims t ∷ (recovers latched ++ (back ++ Ends t ∷ []))) (own_is : own ≡ records ++ Ended t ∷ []) (gone : row_of z t ≡ None) where
     end_there : IsPointStep (mid own hs z g others back undone records backs (Ends t) steps_are) (Does (Ends t)) g.to
     end_there = last_step own hs z g others back undone records backs (Ends t) steps_are
@@ -279,9 +280,9 @@ module _ {V : Type 0} (told : V → Option Disk) (may_leave : V → Disk → Typ
     ended_there : AreRightThen (between own hs z g others back undone records backs (Ends t) steps_are logged_there) c (Logs (Ended t) ∷ []) g.to.core
     ended_there =
         ended_right (bases_of s) s.log c m t w p (mid own hs z g others back undone records backs (Ends t) steps_are) (Claims t ∷ (recovers latched ++ back)) first_at
-        (vault_stops told may_leave faults precheck s B p w gs y v stood) (first own hs z g others back undone records backs (Ends t) steps_are logged_there) t g.to end_there
+        (vault_stops means precheck s B p w gs y v stood) (first own hs z g others back undone records backs (Ends t) steps_are logged_there) t g.to end_there
 
-    pub cleans_up : CleansUp told may_leave faults precheck s B p w gs y v c state m g.to hs z
+    pub cleans_up : CleansUp means precheck s B p w gs y v c state m g.to hs z
     cleans_up =
         let side = first own hs z g others back undone records backs (Ends t) steps_are logged_there in
         let here = claimed_mid own hs z g others back undone records backs (Ends t) steps_are logged_there in
@@ -301,7 +302,7 @@ module _ {V : Type 0} (told : V → Option Disk) (may_leave : V → Disk → Typ
         }
 
   -- ---- or it is refused, and the claim given back
-  module _ (own : List Record) (hs : List RegionState) (z : SystemState) (g : GoneOn told may_leave faults t own s B p gs hs z v) (others : OthersStay gs y t hs z) (back : List Step) (undone : AreBack t back)
+  module _ (own : List Record) (hs : List RegionState) (z : SystemState) (g : GoneOn means t own s B p gs hs z v) (others : OthersStay gs y t hs z) (back : List Step) (undone : AreBack t back)
       (records : List Record) (backs : AreBacks t records) (steps_are : g.steps ≡ Claims t ∷ (recovers latched ++ (back ++ GivesBack t None ∷ []))) (own_is : own ≡ records) (again : state_of z t ≡ Some (Dead None)) where
     abbrev end : Point
     end = mid own hs z g others back undone records backs (GivesBack t None) steps_are
@@ -336,14 +337,14 @@ module _ {V : Type 0} (told : V → Option Disk) (may_leave : V → Disk → Typ
     right : AreRightThen before_it c (gift ∷ []) g.to.core
     right = ((may.was, state_here before_it c gift g.to.core end t side.at.tells ∙ may.claimed, inr refl, claimer_here before_it c gift g.to.core t ∙ (claimed_mid own hs z g others back undone records backs (GivesBack t None) steps_are logged_mid).1), tt)
 
-    did_gift : Did told may_leave faults precheck s B p w c state gs y v (side.ds ++ gift ∷ []) B g.to hs z v
+    did_gift : Did means precheck s B p w c state gs y v (side.ds ++ gift ∷ []) B g.to hs z v
     did_gift = did_all own hs z g others back undone records backs (GivesBack t None) steps_are logged_mid gift refl right (ap is_claimed_in again) (λ b. refl)
 
     same_world : after before_it c (gift ∷ []) g.to.core ≡ after w c (side.ds ++ gift ∷ []) g.to.core
     same_world = same_late own hs z g others back undone records backs (GivesBack t None) steps_are logged_mid gift refl right
 
     -- since the engine is stopped
-    pub stops_short : (cause : Cause) → y.stop ≡ Some cause → CleansUp told may_leave faults precheck s B p w gs y v c state m g.to hs z
+    pub stops_short : (cause : Cause) → y.stop ≡ Some cause → CleansUp means precheck s B p w gs y v c state m g.to hs z
     unfolding lets_go
     stops_short cause stop = record {
       deeds = side.ds ++ gift ∷ [];
@@ -364,7 +365,7 @@ module _ {V : Type 0} (told : V → Option Disk) (may_leave : V → Disk → Typ
         stop_then = stop_there before_it c gift g.to.core ∙ (stop_is_told (bases_of s) s.log before_it end side.at.run side.at.tells (λ e. ap is_some stop_end) ∙ stop_end)
 
     -- since memory is refused
-    pub falls_short : CleansHalf told may_leave faults precheck s B p w gs y v c state m g.to hs z
+    pub falls_short : CleansHalf means precheck s B p w gs y v c state m g.to hs z
     falls_short = record {
       deeds = side.ds ++ gift ∷ [];
       did = did_gift;
@@ -378,21 +379,21 @@ module _ {V : Type 0} (told : V → Option Disk) (may_leave : V → Disk → Typ
     }
 
 -- ---- for the call
-module _ {V : Type 0} (told : V → Option Disk) (may_leave : V → Disk → Type 0) (faults : V → ℕ)
-    (precheck : Bool) (s : Start) (B : List (List Record)) (p : Point) (w : World) (gs : List RegionState) (y : SystemState) (v : Vaulted V) (stood : Stood told may_leave faults s B p w precheck gs y v)
+module _ {V : Type 0} (means : Ghosts V)
+    (precheck : Bool) (s : Start) (B : List (List Record)) (p : Point) (w : World) (gs : List RegionState) (y : SystemState) (v : Vaulted V) (stood : Stood means s B p w precheck gs y v)
     (c : ℕ) (state : State) (m : ℕ) (lives : state_of y m ≡ Some Live) (t : ℕ) (hs : List RegionState) (z : SystemState) (dead : AreDead hs) (others : OthersStay gs y t hs z) (was : IsDead (state_of y t)) where
-  pub cleaned : EndsTxn gs y t hs z → IsGone z t → (to : Point) × CleansUp told may_leave faults precheck s B p w gs y v c state m to hs z
+  pub cleaned : EndsTxn gs y t hs z → IsGone z t → (to : Point) × CleansUp means precheck s B p w gs y v c state m to hs z
   cleaned ends gone =
-      let (records, backs, g, by, beside) = clean_goes told may_leave faults s B p gs hs y z v t stood.stands dead ends others was gone in
-      (g.to, cleans_up told may_leave faults precheck s B p w gs y v stood c state m lives t by.latched by.was (records ++ Ended t ∷ []) hs z g others by.back by.undone records backs by.is refl gone.0)
+      let (records, backs, g, by, beside) = clean_goes means s B p gs hs y z v t stood.stands dead ends others was gone in
+      (g.to, cleans_up means precheck s B p w gs y v stood c state m lives t by.latched by.was (records ++ Ended t ∷ []) hs z g others by.back by.undone records backs by.is refl gone.0)
 
   module _ (left : LeavesTxn gs y t hs z) (again : state_of z t ≡ Some (Dead None)) where
-    pub cut_short : (cause : Cause) → y.stop ≡ Some cause → (to : Point) × CleansUp told may_leave faults precheck s B p w gs y v c state m to hs z
+    pub cut_short : (cause : Cause) → y.stop ≡ Some cause → (to : Point) × CleansUp means precheck s B p w gs y v c state m to hs z
     cut_short cause stop =
-        let (records, backs, g, by, beside) = left_goes told may_leave faults s B p gs hs y z v t stood.stands dead left others was again in
-        (g.to, stops_short told may_leave faults precheck s B p w gs y v stood c state m lives t by.latched by.was records hs z g others by.back by.undone records backs by.is refl again cause stop)
+        let (records, backs, g, by, beside) = left_goes means s B p gs hs y z v t stood.stands dead left others was again in
+        (g.to, stops_short means precheck s B p w gs y v stood c state m lives t by.latched by.was records hs z g others by.back by.undone records backs by.is refl again cause stop)
 
-    pub fallen_short : (to : Point) × CleansHalf told may_leave faults precheck s B p w gs y v c state m to hs z
+    pub fallen_short : (to : Point) × CleansHalf means precheck s B p w gs y v c state m to hs z
     fallen_short =
-        let (records, backs, g, by, beside) = left_goes told may_leave faults s B p gs hs y z v t stood.stands dead left others was again in
-        (g.to, falls_short told may_leave faults precheck s B p w gs y v stood c state m lives t by.latched by.was records hs z g others by.back by.undone records backs by.is refl again)
+        let (records, backs, g, by, beside) = left_goes means s B p gs hs y z v t stood.stands dead left others was again in
+        (g.to, falls_short means precheck s B p w gs y v stood c state m lives t by.latched by.was records hs z g others by.back by.undone records backs by.is refl again)

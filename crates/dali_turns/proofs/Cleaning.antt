@@ -3,23 +3,24 @@ use Rattle.std.proofs.Common.{◌≡◌, ℕ, Bool, true, false, List, ◌∷◌
 use Rattle.std.specs.Prelude.{◌==◌}
 use Rattle.std.proofs.lemmas.List.{append_assoc}
 use Rattle.dali_lists.proofs.Members.{all_append, all_map}
-use Rattle.dali_counts.proofs.Lists.{equal, same_number}
+use Rattle.dali_runs.proofs.CountsLemmas.Lists.{equal, same_number}
 use Rattle.dali_record.specs.declared.records.Call.{Call}
 use Rattle.dali_record.specs.declared.records.Record.{Record}
 use Rattle.dali_region.specs.State.{RegionState}
 use Rattle.dali_att.specs.declared.state.State.TheVariants.{Live}
 use Rattle.dali_store.specs.Store.{Files as Disk}
-use Rattle.dali_system.specs.declared.causes.Cause.{Cause}
-use Rattle.dali_system.specs.State.{SystemState, CoreState, state_in, state_of, lock_of}
+use Rattle.dali_store.specs.declared.store.Store.{Ghosts}
+use Rattle.dali_runs.specs.declared.causes.Cause.{Cause}
+use Rattle.dali_runs.specs.State.{SystemState, CoreState, state_in, state_of, lock_of}
 use Rattle.dali_crash.specs.Checkpoints.{Point}
 use Rattle.dali_crash.specs.Traces.{Start}
-use Rattle.dali_vault.specs.Vaulted.{Vaulted}
+use Rattle.dali_core.specs.Vault.Vaulted.{Vaulted}
 use Rattle.dali_calls.specs.declared.plan.Phase.{Phase}
 use Rattle.dali_calls.specs.declared.plan.Phase.TheVariants.{Calling as IsCalling, Refused as IsRefused}
 use Rattle.dali_calls.specs.Plans.{Planned, goes_back}
 use Rattle.dali_calls.specs.Steps.{answer_of}
-use Rattle.dali_stepwise.specs.Beside.{LeavesBe}
-use Rattle.dali_stepwise.proofs.Waiting.{plan_waits, call_waits, rest_waits}
+use Rattle.dali_calls.specs.Stepwise.Beside.{LeavesBe}
+use Rattle.dali_calls.proofs.StepwiseLemmas.Waiting.{plan_waits, call_waits, rest_waits}
 use Rattle.dali_transcripts.specs.Words.{Act, Calls}
 use Rattle.dali_transcripts.specs.World.{FindsDead, Meets, World, log_of}
 use Rattle.dali_transcripts.specs.Moves.{Receipt, Within as IsWithin, at, operations, left}
@@ -28,9 +29,9 @@ use Rattle.dali_transcripts.specs.Laws.{receipts_from}
 use Rattle.dali_transcripts.specs.Rounds.{Standing}
 use Rattle.dali_transcripts.proofs.Grants.{granted_more}
 use Rattle.dali_transcripts.proofs.Growing.{askings, works, asides, all_tried, met, survives, unanswered, turned_back}
-use Rattle.dali_deeds.specs.Tells.{after}
-use Rattle.dali_clients.specs.Told.{act_of, reason_of}
-use Rattle.dali_clients.specs.declared.line.Why.{Why}
+use Rattle.dali_transcripts.specs.Telling.Tells.{after}
+use Rattle.dali_transcripts.specs.Clients.Told.{act_of, reason_of}
+use Rattle.dali_transcripts.specs.declared.clients.line.Why.{Why}
 use Rattle.dali_turns.specs.declared.client.Client.{Client}
 use Rattle.dali_turns.specs.declared.client.State.{State}
 use Rattle.dali_turns.specs.declared.client.Transaction.{Transaction}
@@ -49,7 +50,7 @@ use Rattle.dali_turns.proofs.Undoing.{undone_on}
 use Rattle.dali_turns.proofs.Cutting.{more_none, more_cut}
 use Rattle.dali_turns.proofs.Asked.{work_of}
 use Rattle.dali_turns.proofs.Turned.{asides_none}
-use Rattle.dali_rounds.specs.Went.{is_open}
+use Rattle.dali_transactions.specs.Beside.Went.{is_open}
 
 -- ---- what was cleaned up is part of whatever the call did
 aside_asking : (w : World) (c t : ℕ) (call : Call) (x : Receipt) → IsAside w c t x → IsAsking w c t call x
@@ -59,10 +60,10 @@ aside_asking w c t call x h = h
 aside_work : (w : World) (c t : ℕ) (call : Call) (x : Receipt) → IsAside w c t x → IsWork w c t call x
 aside_work w c t call x h = work_of w c t call x (aside_asking w c t call x h)
 
-module _ {V : Type 0} (told : V → Option Disk) (may_leave : V → Disk → Type 0) (faults : V → ℕ)
+module _ {V : Type 0} (means : Ghosts V)
     (precheck : Bool) (s : Start) (B : List (List Record)) (p : Point) (w : World) (a : Standing) (gs : List RegionState) (y : SystemState) (v : Vaulted V) (k : Client)
-    (x : Transaction) (state : State) (stood : Stood told may_leave faults s B p w precheck gs y v) (is : IsOf w a k) (lives : state_of y x.txn ≡ Some Live)
-    (to : Point) (hs : List RegionState) (z : SystemState) (cleans : CleansUp told may_leave faults precheck s B p w gs y v a.client state x.txn to hs z) where
+    (x : Transaction) (state : State) (stood : Stood means s B p w precheck gs y v) (is : IsOf w a k) (lives : state_of y x.txn ≡ Some Live)
+    (to : Point) (hs : List RegionState) (z : SystemState) (cleans : CleansUp means precheck s B p w gs y v a.client state x.txn to hs z) where
   abbrev now : World
   now = after w a.client cleans.deeds to.core
 
@@ -180,7 +181,7 @@ module _ {V : Type 0} (told : V → Option Disk) (may_leave : V → Disk → Typ
     clean_of = record {
       client = is.client;
       lines = is.lines;
-      stands = so_far told may_leave faults precheck s B B p to w a state gs hs y z v v cleans.deeds k k is cleans.did;
+      stands = so_far means precheck s B B p to w a state gs hs y z v v cleans.deeds k k is cleans.did;
       others = others_on w now a (behind a w cleans.deeds) cleans.did.goes.grows y z (ap (λ (c : CoreState). c.system) stood.tells.core ∙ stood.stands.at.system) cleans.did.stood.stands.at.system refl refl
           (λ up. ap (λ (m : SystemState). m.stop) (sym stood.stands.at.system) ∙ ran_before (ap (λ (m : SystemState). m.stop) cleans.did.stood.stands.at.system ∙ up))
           (λ n alive. (
@@ -192,12 +193,12 @@ module _ {V : Type 0} (told : V → Option Disk) (may_leave : V → Disk → Typ
           is.others;
     }
 
-    pub cleaned_on : (j : Client) → Stays k state j → Fits told may_leave faults s B to now hs z v (behind a w cleans.deeds) (rest_of k) state → ((n : ℕ) → x.txn ≡ n → Owns state n) → ((n : ℕ) → Owns state n → x.txn ≡ n)
-        → Went told may_leave faults precheck s B p w a state gs y v true j hs z v
+    pub cleaned_on : (j : Client) → Stays k state j → Fits means s B to now hs z v (behind a w cleans.deeds) (rest_of k) state → ((n : ℕ) → x.txn ≡ n → Owns state n) → ((n : ℕ) → Owns state n → x.txn ≡ n)
+        → Went means precheck s B p w a state gs y v true j hs z v
     cleaned_on j f fits owns only =
-        went_on told may_leave faults precheck s B B p to w a state gs hs y z v v cleans.deeds k j is cleans.did true f.transcript
-        (subst (λ (n : State). Fits told may_leave faults s B to now hs z v (behind a w cleans.deeds) (rest_of j) n) (sym f.stands)
-        (subst (λ rest. Fits told may_leave faults s B to now hs z v (behind a w cleans.deeds) rest state) (sym (ap (map act_of) f.rest)) fits))
+        went_on means precheck s B B p to w a state gs hs y z v v cleans.deeds k j is cleans.did true f.transcript
+        (subst (λ (n : State). Fits means s B to now hs z v (behind a w cleans.deeds) (rest_of j) n) (sym f.stands)
+        (subst (λ rest. Fits means s B to now hs z v (behind a w cleans.deeds) rest state) (sym (ap (map act_of) f.rest)) fits))
         (λ e. subst (λ (n : State). RowsTell state y n z) (sym f.stands) rows)
       where
         rows : RowsTell state y state z
@@ -207,23 +208,23 @@ module _ {V : Type 0} (told : V → Option Disk) (may_leave : V → Disk → Typ
             by_test true e = inl (owns n (equal x.txn n e))
             by_test false e = inr (lived n alive, λ own. let same : (x.txn == n) ≡ true = same_number x.txn n (only n own) in let both : true ≡ false = sym same ∙ e in absurd (cc))
 
-    pub cleaned_then : (j : Client) (ks : List RegionState) (m : SystemState) (t : Vaulted V) (ok : Bool) → Fits told may_leave faults s B to now hs z v (behind a w cleans.deeds) (rest_of k) state → StepGoes told may_leave faults precheck state k hs z v ok j ks m t
-        → Went told may_leave faults precheck s B p w a state gs y v ok j ks m t
-    cleaned_then j ks m t ok fits goes = did_went_live told may_leave faults precheck s B B p to w a state gs hs ks y z m v v t cleans.deeds ok j stood (still_ran told may_leave faults precheck s B to now (behind a w cleans.deeds) state hs ks z m v t ok j cleans.did.stood two) lived cleans.did two
+    pub cleaned_then : (j : Client) (ks : List RegionState) (m : SystemState) (t : Vaulted V) (ok : Bool) → Fits means s B to now hs z v (behind a w cleans.deeds) (rest_of k) state → StepGoes means precheck state k hs z v ok j ks m t
+        → Went means precheck s B p w a state gs y v ok j ks m t
+    cleaned_then j ks m t ok fits goes = did_went_live means precheck s B B p to w a state gs hs ks y z m v v t cleans.deeds ok j stood (still_ran means precheck s B to now (behind a w cleans.deeds) state hs ks z m v t ok j cleans.did.stood two) lived cleans.did two
       where
-        two : Went told may_leave faults precheck s B to now (behind a w cleans.deeds) state hs z v ok j ks m t
+        two : Went means precheck s B to now (behind a w cleans.deeds) state hs z v ok j ks m t
         two = goes s B to now (behind a w cleans.deeds) cleans.did.stood clean_of fits
 
 -- ---- memory was refused in it
-module _ {V : Type 0} (told : V → Option Disk) (may_leave : V → Disk → Type 0) (faults : V → ℕ)
+module _ {V : Type 0} (means : Ghosts V)
     (precheck : Bool) (s : Start) (B : List (List Record)) (p : Point) (w : World) (a : Standing) (gs : List RegionState) (y : SystemState) (v : Vaulted V) (k : Client)
-    (x : Transaction) (state : State) (is : IsOf w a k) (to : Point) (hs : List RegionState) (z : SystemState) (half : CleansHalf told may_leave faults precheck s B p w gs y v a.client state x.txn to hs z)
+    (x : Transaction) (state : State) (is : IsOf w a k) (to : Point) (hs : List RegionState) (z : SystemState) (half : CleansHalf means precheck s B p w gs y v a.client state x.txn to hs z)
     (call : Call) (more : List Act) (tries : ℕ) (cs : List Act) (d : Option ℕ) (b : Bool) (spot : a.spot ≡ at (IsWithin x.txn tries cs d b) (Calls call ∷ more)) (cut : IsUnanswered w a.client x.txn d call a.pending ⊎ IsTurnedBack w a.client x.txn d call a.pending) where
   abbrev then_now : World
   then_now = after w a.client half.deeds to.core
 
-  pub half_goes : (j : Client) → j.transcript ≡ k.transcript → Went told may_leave faults precheck s B p w a state gs y v false j hs z v
-  half_goes j same = went_on told may_leave faults precheck s B B p to w a state gs hs y z v v half.deeds k j is half.did false same (inl (refl, so_far_done)) (λ e. absurd (cc))
+  pub half_goes : (j : Client) → j.transcript ≡ k.transcript → Went means precheck s B p w a state gs y v false j hs z v
+  half_goes j same = went_on means precheck s B B p to w a state gs hs y z v v half.deeds k j is half.did false same (inl (refl, so_far_done)) (λ e. absurd (cc))
     where
       cut_then : IsUnanswered w a.client x.txn d call a.pending ⊎ IsTurnedBack w a.client x.txn d call a.pending → IsUnanswered then_now a.client x.txn d call a.pending ⊎ IsTurnedBack then_now a.client x.txn d call a.pending
       cut_then (inl h) = inl (unanswered w then_now half.did.goes.grows a.client x.txn d call a.pending h)

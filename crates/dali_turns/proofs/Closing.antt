@@ -5,32 +5,33 @@ use Rattle.std.specs.List.{AllByRecursion, list_all}
 use Rattle.std.proofs.lemmas.List.{append_assoc, append_cancel_right, length-append, map-append}
 use Rattle.dali_lists.proofs.Lists.{get_append_cases, get_push}
 use Rattle.dali_lists.proofs.Members.{contains_from_get}
-use Rattle.dali_counts.proofs.Lists.{equal}
+use Rattle.dali_runs.proofs.CountsLemmas.Lists.{equal}
 use Rattle.dali_record.specs.declared.records.Record.{Record}
 use Rattle.dali_record.specs.declared.records.Record.TheVariants.{Ended, Commit}
 use Rattle.dali_region.specs.State.{RegionState}
 use Rattle.dali_att.specs.declared.state.State.TheVariants.{Live, Dead}
 use Rattle.dali_att.specs.Table.{with_state}
 use Rattle.dali_store.specs.Store.{Files as Disk}
-use Rattle.dali_system.specs.State.{TxnRow, SystemState, row_of, state_in, state_of}
-use Rattle.dali_system.specs.Wholes.{latched_in}
-use Rattle.dali_system.specs.Courses.{Step, Ends}
+use Rattle.dali_store.specs.declared.store.Store.{Ghosts}
+use Rattle.dali_runs.specs.State.{TxnRow, SystemState, row_of, state_in, state_of}
+use Rattle.dali_runs.specs.Wholes.{latched_in}
+use Rattle.dali_runs.specs.Courses.{Step, Ends}
 use Rattle.dali_crash.specs.Checkpoints.{Does, Point, IsPointStep, IsPointCourse}
 use Rattle.dali_crash.specs.Traces.{Start, bases_of}
-use Rattle.dali_vault.specs.Vaulted.{Vaulted}
-use Rattle.dali_single.specs.Ending.{IsBackOf}
+use Rattle.dali_core.specs.Vault.Vaulted.{Vaulted}
+use Rattle.dali_calls.specs.Single.Ending.{IsBackOf}
 use Rattle.dali_clean.specs.Others.{RowStays, OthersStay}
-use Rattle.dali_ends.specs.Ended.{AreOfEnd}
-use Rattle.dali_rounds.specs.Went.{Went as GoneOn}
-use Rattle.dali_rounds.proofs.Runs.{live_is_uncommitted}
+use Rattle.dali_transactions.specs.Ended.{AreOfEnd}
+use Rattle.dali_transactions.specs.Beside.Went.{Went as GoneOn}
+use Rattle.dali_transactions.proofs.BesideLemmas.Runs.{live_is_uncommitted}
 use Rattle.dali_transcripts.specs.World.{Deed, Logs, World, logged_by, log_of, IsUncommitted, is_dead_in, is_claimed_in}
 use Rattle.dali_transcripts.specs.Causes.{AreAside}
 use Rattle.dali_transcripts.specs.Laws.{receipts_from}
 use Rattle.dali_transcripts.specs.Rounds.{by}
 use Rattle.dali_transcripts.proofs.Growing.{get_back, asides}
-use Rattle.dali_deeds.specs.Tells.{after, AreRightThen, Goes}
-use Rattle.dali_deeds.specs.Laws.{AreOfCourse}
-use Rattle.dali_deeds.proofs.Courses.{after_after}
+use Rattle.dali_transcripts.specs.Telling.Tells.{after, AreRightThen, Goes}
+use Rattle.dali_transcripts.specs.Telling.Laws.{AreOfCourse}
+use Rattle.dali_transcripts.proofs.TellingLemmas.Courses.{after_after}
 use Rattle.dali_turns.specs.declared.client.State.{State}
 use Rattle.dali_turns.specs.Stood.{IsQuiet, Stood}
 use Rattle.dali_turns.specs.Fits.{Owns}
@@ -39,7 +40,7 @@ use Rattle.dali_turns.proofs.Doing.{Did, vault_stops}
 use Rattle.dali_turns.proofs.Refusals.{runs_on_log}
 use Rattle.dali_turns.proofs.Sides.{At, InHand, Sided, AreBacks, sided, one_goes, receipts_then, course_split, courses_told, logged_is, backs_sides, asides_of, ended_right}
 use Rattle.dali_turns.proofs.Along.{end_out, out_both, did_calm}
-use Rattle.dali_rounds.specs.Went.{is_open}
+use Rattle.dali_transactions.specs.Beside.Went.{is_open}
 
 -- ---- lists
 pub all_at : {X : Type 0} (P : X → Type 0) (xs : List X) (i : ℕ) (x : X) → AllByRecursion P xs → slice_get xs i ≡ Some x → P x
@@ -85,25 +86,25 @@ module _ (gs hs : List RegionState) (y z : SystemState) (t : ℕ) (others : Othe
       by_test false f = (was_open u f e, λ same. own (subst (λ (n : ℕ). is_open (state_of z n) ≡ true) (sym same) e))
 
 -- ---- a transaction of the client's own
-module _ {V : Type 0} (told : V → Option Disk) (may_leave : V → Disk → Type 0) (faults : V → ℕ)
+module _ {V : Type 0} (means : Ghosts V)
     (precheck : Bool) (s : Start) (B : List (List Record)) (p : Point) (w : World) (gs : List RegionState) (y : SystemState) (v : Vaulted V) (c : ℕ) (state : State) (t : ℕ) (to : Point) (hs : List RegionState) (z : SystemState) where
   -- some of its undos were performed
   pub record GoesBack : Type 0 where
     pub back : List Deed
-    pub did : Did told may_leave faults precheck s B p w c state gs y v back B to hs z v
+    pub did : Did means precheck s B p w c state gs y v back B to hs z v
     pub aside : AreAside (after w c back to.core) c t (receipts_from (length (log_of w)) back)
 
   -- all of them, and its end was logged
   pub record GoesAway : Type 0 where
     pub back : List Deed
     pub number : ℕ
-    pub did : Did told may_leave faults precheck s B p w c state gs y v (back ++ Logs (Ended t) ∷ []) B to hs z v
+    pub did : Did means precheck s B p w c state gs y v (back ++ Logs (Ended t) ∷ []) B to hs z v
     pub aside : AreAside (after w c (back ++ Logs (Ended t) ∷ []) to.core) c t (receipts_from (length (log_of w)) back)
     pub receipts : receipts_from (length (log_of w)) (back ++ Logs (Ended t) ∷ []) ≡ receipts_from (length (log_of w)) back ++ (number, Logs (Ended t)) ∷ []
     pub uncommitted : IsUncommitted (after w c (back ++ Logs (Ended t) ∷ []) to.core) t number
 
-module _ {V : Type 0} (told : V → Option Disk) (may_leave : V → Disk → Type 0) (faults : V → ℕ)
-    (precheck : Bool) (s : Start) (B : List (List Record)) (p : Point) (w : World) (gs : List RegionState) (y : SystemState) (v : Vaulted V) (stood : Stood told may_leave faults s B p w precheck gs y v)
+module _ {V : Type 0} (means : Ghosts V)
+    (precheck : Bool) (s : Start) (B : List (List Record)) (p : Point) (w : World) (gs : List RegionState) (y : SystemState) (v : Vaulted V) (stood : Stood means s B p w precheck gs y v)
     (c : ℕ) (state : State) (t : ℕ) (lives : state_of y t ≡ Some Live) (owns : (u : ℕ) → t ≡ u → Owns state u) where
   at_first : At (bases_of s) s.log w p
   at_first = record { run = stood.stands.at.vault.run; tells = stood.tells; whole = stood.stands.whole }
@@ -129,7 +130,7 @@ module _ {V : Type 0} (told : V → Option Disk) (may_leave : V → Disk → Typ
       by_test true e = absurd (other (owns u (equal t u e)))
       by_test false e = e
 
-  module _ (own : List Record) (hs : List RegionState) (z : SystemState) (g : GoneOn told may_leave faults t own s B p gs hs z v) (others : OthersStay gs y t hs z) (front : List Step) (are : AreOfEnd t front)
+  module _ (own : List Record) (hs : List RegionState) (z : SystemState) (g : GoneOn means t own s B p gs hs z v) (others : OthersStay gs y t hs z) (front : List Step) (are : AreOfEnd t front)
       (records : List Record) (backs : AreBacks t records) where
     -- ---- in part
     module _ (steps_are : g.steps ≡ front) (own_is : own ≡ records) (still : state_of z t ≡ Some Live) where
@@ -142,8 +143,8 @@ module _ {V : Type 0} (told : V → Option Disk) (may_leave : V → Disk → Typ
       abbrev part_deeds : List Deed
       part_deeds = part.ds
 
-      part_did : Did told may_leave faults precheck s B p w c state gs y v part_deeds B g.to hs z v
-      part_did = did_calm told may_leave faults precheck s B p w gs y v stood c state t own hs z g part.ds (subst (λ xs. AreOfCourse w c p (map Does xs) g.to part.ds) (sym steps_are) part.are)
+      part_did : Did means precheck s B p w c state gs y v part_deeds B g.to hs z v
+      part_did = did_calm means precheck s B p w gs y v stood c state t own hs z g part.ds (subst (λ xs. AreOfCourse w c p (map Does xs) g.to part.ds) (sym steps_are) part.are)
           (unclaimed_then gs hs y z t others stood.quiet (ap is_claimed_in still))
           apart_from (λ b. subst (λ xs. list_all (is_out_of b) (map Does xs) ≡ true) (sym steps_are) (end_out b t front are))
 
@@ -151,7 +152,7 @@ module _ {V : Type 0} (told : V → Option Disk) (may_leave : V → Disk → Typ
       part_aside = asides_of (after w c part.ds g.to.core) c t t (length (log_of w)) part.ds part.sides
           (subst (λ xs. AreBacks t xs) (sym (logged_is w c part.ds p g.to records stood.tells part.at.tells (g.log ∙ ap (λ l. p.log ++ l) own_is))) backs)
 
-      pub goes_back : GoesBack told may_leave faults precheck s B p w gs y v c state t g.to hs z
+      pub goes_back : GoesBack means precheck s B p w gs y v c state t g.to hs z
       goes_back = record { back = part_deeds; did = part_did; aside = part_aside }
 
     -- ---- and its end is logged
@@ -187,7 +188,7 @@ module _ {V : Type 0} (told : V → Option Disk) (may_leave : V → Disk → Typ
       same_late = after_after w c first.ds (Logs (Ended t) ∷ []) mid.core g.to.core
 
       ended_there : AreRightThen between c (Logs (Ended t) ∷ []) g.to.core
-      ended_there = ended_right (bases_of s) s.log c t t w p mid front at_first (vault_stops told may_leave faults precheck s B p w gs y v stood) first t g.to end_step
+      ended_there = ended_right (bases_of s) s.log c t t w p mid front at_first (vault_stops means precheck s B p w gs y v stood) first t g.to end_step
 
       last_goes : Goes between c mid (Logs (Ended t) ∷ []) late g.to
       last_goes = subst (λ (x : World). Goes between c mid (Logs (Ended t) ∷ []) x g.to) same_late (one_goes (bases_of s) s.log c between mid g.to (Ends t) (Logs (Ended t) ∷ []) first.at end_step refl ended_there)
@@ -207,8 +208,8 @@ module _ {V : Type 0} (told : V → Option Disk) (may_leave : V → Disk → Typ
       none_there : state_of z t ≡ None
       none_there = ap state_in gone
 
-      whole_did : Did told may_leave faults precheck s B p w c state gs y v (whole_deeds ++ Logs (Ended t) ∷ []) B g.to hs z v
-      whole_did = did_calm told may_leave faults precheck s B p w gs y v stood c state t own hs z g (first.ds ++ Logs (Ended t) ∷ []) told_all
+      whole_did : Did means precheck s B p w c state gs y v (whole_deeds ++ Logs (Ended t) ∷ []) B g.to hs z v
+      whole_did = did_calm means precheck s B p w gs y v stood c state t own hs z g (first.ds ++ Logs (Ended t) ∷ []) told_all
           (unclaimed_then gs hs y z t others stood.quiet (ap is_claimed_in none_there))
           apart_from all_out
 
@@ -242,5 +243,5 @@ module _ {V : Type 0} (told : V → Option Disk) (may_leave : V → Disk → Typ
             (get_append_cases p.log records k (Commit t) (get_back (p.log ++ records) (Ended t ∷ []) k (Commit t) (omega (arith, below, number_is)) (subst (λ l. slice_get l k ≡ Some (Commit t)) log_late has))),
       )
 
-      pub goes_away : GoesAway told may_leave faults precheck s B p w gs y v c state t g.to hs z
+      pub goes_away : GoesAway means precheck s B p w gs y v c state t g.to hs z
       goes_away = record { back = whole_deeds; number = end_number; did = whole_did; aside = whole_aside; receipts = whole_receipts; uncommitted = whole_uncommitted }

@@ -5,12 +5,13 @@ use Rattle.std.proofs.lemmas.List.{append-nil, map-append, set-get_or}
 use Rattle.std.proofs.lemmas.Option.{slice_get-get_or}
 use Rattle.dali_region.specs.State.{RegionState}
 use Rattle.dali_store.specs.Store.{Files as Disk}
-use Rattle.dali_system.specs.State.{SystemState}
-use Rattle.dali_vault.specs.Vaulted.{Vaulted}
-use Rattle.dali_clients.specs.declared.command.Command.{Command}
-use Rattle.dali_clients.specs.declared.line.Line.{Line}
-use Rattle.dali_clients.specs.Said.{Transcribed}
-use Rattle.dali_clients.specs.Told.{act_of, said_of}
+use Rattle.dali_store.specs.declared.store.Store.{Ghosts}
+use Rattle.dali_runs.specs.State.{SystemState}
+use Rattle.dali_core.specs.Vault.Vaulted.{Vaulted}
+use Rattle.dali_transcripts.specs.declared.clients.command.Command.{Command}
+use Rattle.dali_transcripts.specs.declared.clients.line.Line.{Line}
+use Rattle.dali_transcripts.specs.Clients.Said.{Transcribed}
+use Rattle.dali_transcripts.specs.Clients.Told.{act_of, said_of}
 use Rattle.dali_transcripts.specs.Words.{Act, Calls, Aborts as AbortAct, Audits as AuditAct, Checkpoints as CheckpointAct}
 use Rattle.dali_transcripts.specs.World.{World}
 use Rattle.dali_transcripts.specs.Moves.{Receipt, Place, Outside, Within, Spot, at}
@@ -42,17 +43,17 @@ err_false (Ok x) h = absurd (cc)
 err_false (Err e) h = refl
 
 -- memory was refused
-pub unsaid_goes : {V : Type 0} (told : V → Option Disk) (may_leave : V → Disk → Type 0) (faults : V → ℕ) (precheck : Bool) (state : State) (k j : Client) (gs hs : List RegionState) (y z : SystemState) (v u : Vaulted V) (ok : Bool) → ok ≡ false
-    → StepGoes told may_leave faults precheck state k gs y v false j hs z u → StepGoes told may_leave faults precheck state k gs y v ok j hs z u
-unsaid_goes told may_leave faults precheck state k j gs hs y z v u ok e goes = subst (λ (b : Bool). StepGoes told may_leave faults precheck state k gs y v b j hs z u) (sym e) goes
+pub unsaid_goes : {V : Type 0} (means : Ghosts V) (precheck : Bool) (state : State) (k j : Client) (gs hs : List RegionState) (y z : SystemState) (v u : Vaulted V) (ok : Bool) → ok ≡ false
+    → StepGoes means precheck state k gs y v false j hs z u → StepGoes means precheck state k gs y v ok j hs z u
+unsaid_goes means precheck state k j gs hs y z v u ok e goes = subst (λ (b : Bool). StepGoes means precheck state k gs y v b j hs z u) (sym e) goes
 
 -- what is left is this
-pub so_left : {V : Type 0} (told : V → Option Disk) (may_leave : V → Disk → Type 0) (faults : V → ℕ) (precheck : Bool) (state : State) (k j : Client) (gs : List RegionState) (y : SystemState) (v : Vaulted V) (ok : Bool) (hs ks : List RegionState) (z x : SystemState) (u t : Vaulted V)
-    → hs ≡ ks → z ≡ x → u ≡ t → StepGoes told may_leave faults precheck state k gs y v ok j ks x t → StepGoes told may_leave faults precheck state k gs y v ok j hs z u
-so_left {V} told may_leave faults precheck state k j gs y v ok hs ks z x u t regions system vault goes =
-    subst (λ (l : List RegionState). StepGoes told may_leave faults precheck state k gs y v ok j l z u) (sym regions)
-    (subst (λ (m : SystemState). StepGoes told may_leave faults precheck state k gs y v ok j ks m u) (sym system)
-    (subst (λ (n : Vaulted V). StepGoes told may_leave faults precheck state k gs y v ok j ks x n) (sym vault) goes))
+pub so_left : {V : Type 0} (means : Ghosts V) (precheck : Bool) (state : State) (k j : Client) (gs : List RegionState) (y : SystemState) (v : Vaulted V) (ok : Bool) (hs ks : List RegionState) (z x : SystemState) (u t : Vaulted V)
+    → hs ≡ ks → z ≡ x → u ≡ t → StepGoes means precheck state k gs y v ok j ks x t → StepGoes means precheck state k gs y v ok j hs z u
+so_left {V} means precheck state k j gs y v ok hs ks z x u t regions system vault goes =
+    subst (λ (l : List RegionState). StepGoes means precheck state k gs y v ok j l z u) (sym regions)
+    (subst (λ (m : SystemState). StepGoes means precheck state k gs y v ok j ks m u) (sym system)
+    (subst (λ (n : Vaulted V). StepGoes means precheck state k gs y v ok j ks x n) (sym vault) goes))
 
 -- ---- the next command
 -- the acts behind it

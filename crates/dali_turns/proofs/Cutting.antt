@@ -12,10 +12,11 @@ use Rattle.dali_record.specs.declared.records.Record.TheVariants.{Forward, Audit
 use Rattle.dali_record.specs.declared.records.Call.{Call}
 use Rattle.dali_region.specs.State.{RegionState}
 use Rattle.dali_store.specs.Store.{Files as Disk}
-use Rattle.dali_system.specs.State.{SystemState, stable}
+use Rattle.dali_store.specs.declared.store.Store.{Ghosts}
+use Rattle.dali_runs.specs.State.{SystemState, stable}
 use Rattle.dali_crash.specs.Checkpoints.{Point}
 use Rattle.dali_crash.specs.Traces.{Start}
-use Rattle.dali_vault.specs.Vaulted.{Vaulted}
+use Rattle.dali_core.specs.Vault.Vaulted.{Vaulted}
 use Rattle.dali_transcripts.specs.Words.{Act, Calls, Audits as AuditAct, Checkpoints as CheckpointAct, CommitOk}
 use Rattle.dali_transcripts.specs.World.{Logs, GivesBack, GetsLock, FindsDead, StartsCheckpoint, Meets, World}
 use Rattle.dali_transcripts.specs.Moves.{Receipt, Place, Outside as IsOutside, Within as IsWithin, Again, LeftOut as IsLeftOut, Spot, at, Commits as CommitsMove, is_operation, operations}
@@ -24,8 +25,8 @@ use Rattle.dali_transcripts.specs.Transcripts.{IsUnderWay}
 use Rattle.dali_transcripts.specs.Rounds.{Standing}
 use Rattle.dali_transcripts.proofs.Grants.{granted_asks, idle_asks, asks_then}
 use Rattle.dali_calls.specs.Plans.{Planned}
-use Rattle.dali_clients.specs.declared.line.Why.{Why}
-use Rattle.dali_clients.specs.Told.{act_of, reason_of}
+use Rattle.dali_transcripts.specs.declared.clients.line.Why.{Why}
+use Rattle.dali_transcripts.specs.Clients.Told.{act_of, reason_of}
 use Rattle.dali_turns.specs.declared.client.State.{State}
 use Rattle.dali_turns.specs.declared.client.State.TheVariants.{Outside, LeftOut, Within, Calling, TakingBack, Committing, Waiting, Auditing, Copying, Certifying, Gone}
 use Rattle.dali_turns.specs.declared.client.Transaction.{Transaction}
@@ -148,13 +149,13 @@ so_far_cut : (p : Point) (w : World) (a : Standing) (rest : List Act) (x : Trans
 so_far_cut p w a rest x f (Calls call ∷ more) next so_far = inl (refl, inl (asked_cut p w a rest x call more next f))
 so_far_cut p w a rest x f acts next so_far = none_under_way w a.client (at (IsWithin x.txn x.tries (map act_of x.commands.now) x.deadly f.said) acts) a.pending f.due so_far
 
-module _ {V : Type 0} (told : V → Option Disk) (may_leave : V → Disk → Type 0) (faults : V → ℕ)
+module _ {V : Type 0} (means : Ghosts V)
     (s : Start) (B : List (List Record)) (p : Point) (w : World) (gs : List RegionState) (y : SystemState) (v : Vaulted V) (a : Standing) where
   calls_at : (place : Place) (rest more : List Act) (call : Call) → a.spot ≡ at place rest → rest ≡ Calls call ∷ more → a.spot ≡ at place (Calls call ∷ more)
   calls_at place rest more call e f = subst (λ (l : List Act). a.spot ≡ at place l) f e
 
   -- where no commit waits for its flush
-  pub fits_under_way : (rest : List Act) (state : State) → Fits told may_leave faults s B p w gs y v a rest state → stable w.core ≡ y.first + v.flushed → awaits_flush state y v ≡ false → IsUnderWay w a.client a.spot a.pending []
+  pub fits_under_way : (rest : List Act) (state : State) → Fits means s B p w gs y v a rest state → stable w.core ≡ y.first + v.flushed → awaits_flush state y v ≡ false → IsUnderWay w a.client a.spot a.pending []
   fits_under_way rest Outside f stable_is none = none_under_way w a.client a.spot a.pending (due_at a.spot (IsOutside f.said) rest f.spot tt) f.none
   fits_under_way rest LeftOut f stable_is none = none_under_way w a.client a.spot a.pending (due_at a.spot (IsLeftOut f.said) rest f.spot tt) f.none
   fits_under_way rest (Waiting tries holder) f stable_is none = none_under_way w a.client a.spot a.pending (due_at a.spot (Again tries holder f.said) rest f.spot tt) f.none

@@ -5,45 +5,46 @@ use Rattle.std.specs.List.{list_all}
 use Rattle.std.specs.Option.{option_map_or}
 use Rattle.std.proofs.lemmas.List.{append-nil, append_assoc, map-append, append_cancel_left}
 use Rattle.std.proofs.lemmas.Bool.{and_parts, ne_eqb}
-use Rattle.dali_counts.proofs.Lists.{same_number, some_same}
+use Rattle.dali_runs.proofs.CountsLemmas.Lists.{same_number, some_same}
 use Rattle.dali_record.specs.declared.records.Record.{Record}
 use Rattle.dali_region.specs.State.{RegionState, dead}
 use Rattle.dali_att.specs.declared.state.State.{State as RowState}
 use Rattle.dali_att.specs.declared.state.State.TheVariants.{Live, Dead}
 use Rattle.dali_att.specs.Table.{with_state}
 use Rattle.dali_store.specs.Store.{Files as Disk}
-use Rattle.dali_system.specs.State.{SystemState, VaultState, CoreState, state_of}
-use Rattle.dali_system.specs.Run.{RunsOn}
-use Rattle.dali_system.specs.Keeps.{IsFree}
-use Rattle.dali_system.specs.Flushes.{frame_of}
-use Rattle.dali_system.specs.Courses.{Step, Dies as DiesStep, IsStep}
-use Rattle.dali_parts.proofs.Vaults.{step_has_vault}
+use Rattle.dali_store.specs.declared.store.Store.{Ghosts}
+use Rattle.dali_runs.specs.State.{SystemState, VaultState, CoreState, state_of}
+use Rattle.dali_runs.specs.Run.{RunsOn}
+use Rattle.dali_runs.specs.Keeps.{IsFree}
+use Rattle.dali_runs.specs.Flushes.{frame_of}
+use Rattle.dali_runs.specs.Courses.{Step, Dies as DiesStep, IsStep}
+use Rattle.dali_runs.proofs.PartsLemmas.Vaults.{step_has_vault}
 use Rattle.dali_crash.specs.Checkpoints.{StoreStep, Does, Point, IsPointStep}
 use Rattle.dali_crash.specs.Traces.{Start, bases_of}
-use Rattle.dali_vault.specs.Vaulted.{Vaulted}
+use Rattle.dali_core.specs.Vault.Vaulted.{Vaulted}
 use Rattle.dali_calls.specs.Plans.{Planned, is_back, IsWhole}
-use Rattle.dali_single.specs.Stands.{core}
-use Rattle.dali_single.proofs.Lists.{get_set}
-use Rattle.dali_stepwise.specs.Stepwise.{IsDeath, DiesIn as DiesNow}
-use Rattle.dali_stepwise.proofs.Opening.{kept_by}
-use Rattle.dali_steps.proofs.Courses.{came_same, vault_same}
-use Rattle.dali_steps.proofs.Steps.{quiet_goes}
-use Rattle.dali_whole.specs.Cores.{IsCoreAt}
+use Rattle.dali_calls.specs.Single.Stands.{core}
+use Rattle.dali_calls.proofs.SingleLemmas.Lists.{get_set}
+use Rattle.dali_calls.specs.Stepwise.Stepwise.{IsDeath, DiesIn as DiesNow}
+use Rattle.dali_calls.proofs.StepwiseLemmas.Opening.{kept_by}
+use Rattle.dali_core.proofs.StepsLemmas.Courses.{came_same, vault_same}
+use Rattle.dali_core.proofs.StepsLemmas.Steps.{quiet_goes}
+use Rattle.dali_core.specs.Cores.{IsCoreAt}
 use Rattle.dali_checkpoint.proofs.Calls.{course_join}
-use Rattle.dali_rounds.specs.Went.{Went as RoundsWent}
-use Rattle.dali_rounds.proofs.Calls.{die_goes}
+use Rattle.dali_transactions.specs.Beside.Went.{Went as RoundsWent}
+use Rattle.dali_transactions.proofs.BesideLemmas.Calls.{die_goes}
 use Rattle.dali_transcripts.specs.Words.{Calls}
 use Rattle.dali_transcripts.specs.World.{Deed, Logs, DiesOn, World, log_of, log_at, is_claimed_in}
 use Rattle.dali_transcripts.specs.Moves.{Within as IsWithin, at, Move, Dies, operations, left}
 use Rattle.dali_transcripts.specs.Causes.{GoesOn as MayGoOn, HasCause}
 use Rattle.dali_transcripts.specs.Rounds.{Standing}
 use Rattle.dali_transcripts.proofs.Growing.{works}
-use Rattle.dali_deeds.specs.Tells.{after}
-use Rattle.dali_deeds.specs.Laws.{AreOfCourse}
-use Rattle.dali_deeds.proofs.States.{new_state}
-use Rattle.dali_clients.specs.Said.{said as with_lines}
-use Rattle.dali_clients.specs.Told.{act_of, said_of}
-use Rattle.dali_clients.specs.declared.line.Line.TheVariants.{Died as DiedLine}
+use Rattle.dali_transcripts.specs.Telling.Tells.{after}
+use Rattle.dali_transcripts.specs.Telling.Laws.{AreOfCourse}
+use Rattle.dali_transcripts.proofs.TellingLemmas.States.{new_state}
+use Rattle.dali_transcripts.specs.Clients.Said.{said as with_lines}
+use Rattle.dali_transcripts.specs.Clients.Told.{act_of, said_of}
+use Rattle.dali_transcripts.specs.declared.clients.line.Line.TheVariants.{Died as DiedLine}
 use Rattle.dali_turns.specs.declared.client.Client.{Client}
 use Rattle.dali_turns.specs.declared.client.State.{State}
 use Rattle.dali_turns.specs.declared.client.State.TheVariants.{Calling, Gone}
@@ -59,7 +60,7 @@ use Rattle.dali_turns.proofs.Doing.{Did, vault_stops, ended, went_by, went_silen
 use Rattle.dali_turns.proofs.Coursing.{did_course}
 use Rattle.dali_turns.proofs.Walking.{point_behind, Led, led}
 use Rattle.dali_turns.proofs.Allowed.{words_are, may_go_on}
-use Rattle.dali_rounds.specs.Went.{is_open}
+use Rattle.dali_transactions.specs.Beside.Went.{is_open}
 
 -- ---- steps that log nothing, and then a death
 dies_behind : (t r c : ℕ) (w : World) (p mid q : Point) (xs : List StoreStep) (ds : List Deed) → AreOfCourse w c p xs mid ds → IsPointStep mid (Does (DiesStep t (Some r))) q → (w.precheck ≡ true → IfSome (slice_get mid.core.regions r) (λ (g : RegionState). g.stray ≡ 0))
@@ -79,9 +80,9 @@ deadly_is : (o : Option ℕ) (n : ℕ) → left o n ≡ Some 1 → (d : ℕ) × 
 deadly_is None n e = absurd (cc)
 deadly_is (Some d) n e = (d, refl, let less : d - n ≡ 1 = some_same e in omega (arith, less))
 
-module _ {V : Type 0} (told : V → Option Disk) (may_leave : V → Disk → Type 0) (faults : V → ℕ)
+module _ {V : Type 0} (means : Ghosts V)
     (precheck : Bool) (s : Start) (B : List (List Record)) (p : Point) (w : World) (a : Standing) (gs hs : List RegionState) (y z : SystemState) (v : Vaulted V) (k j : Client)
-    (x : Transaction) (plan : Planned) (stood : Stood told may_leave faults s B p w precheck gs y v) (is : IsOf w a k) (fits : FitsCalling p w a (rest_of k) x plan)
+    (x : Transaction) (plan : Planned) (stood : Stood means s B p w precheck gs y v) (is : IsOf w a k) (fits : FitsCalling p w a (rest_of k) x plan)
     (whole : IsWhole plan) (way : is_back plan ≡ false) (deadly : IsDeadly x) (death : IsDeath precheck plan gs y hs z) where
   abbrev u : VaultState
   u = p.core.vault
@@ -95,8 +96,8 @@ module _ {V : Type 0} (told : V → Option Disk) (may_leave : V → Disk → Typ
   now : DiesNow precheck p.log p.core plan.txn r (core hs z u)
   now = subst (λ (c : CoreState). DiesNow precheck p.log c plan.txn r (core hs z u)) core_here (death.leads p.log u (subst (λ (c : CoreState). IsFree c plan.txn) (sym core_here) fits.plan_is.stands.free))
 
-  walked : Led told may_leave faults plan.txn s B p w a.client gs y v p.log now.mid
-  walked = led told may_leave faults precheck plan.txn a.client s B v now.steps p w gs y p.log now.mid stood.stands.at stood.precheck_is (record { run = stood.stands.at.vault.run; tells = stood.tells; whole = stood.stands.whole }) (vault_stops told may_leave faults precheck s B p w gs y v stood) now.leads
+  walked : Led means plan.txn s B p w a.client gs y v p.log now.mid
+  walked = led means precheck plan.txn a.client s B v now.steps p w gs y p.log now.mid stood.stands.at stood.precheck_is (record { run = stood.stands.at.vault.run; tells = stood.tells; whole = stood.stands.whole }) (vault_stops means precheck s B p w gs y v stood) now.leads
 
   none_logged : [] ≡ walked.own
   none_logged = append_cancel_left p.log [] walked.own (append-nil p.log ∙ walked.log)
@@ -133,17 +134,17 @@ module _ {V : Type 0} (told : V → Option Disk) (may_leave : V → Disk → Typ
           subst (λ (o : Option RegionState). IfSome o (λ (g : RegionState). g.stray ≡ 0)) (sym e)
           (ap (λ (g : RegionState). g.stray) same ∙ (ap (λ (g : RegionState). g.stray) (kept_by plan.txn death.region death.opened death.is.steps death.is.goes) ∙ death.is.checked way (sym stood.precheck_is ∙ on)))
 
-  at_behind : IsCoreAt told may_leave faults s B q hs z v
+  at_behind : IsCoreAt means s B q hs z v
   at_behind = record {
     regions = refl;
     system = refl;
-    vault = quiet_goes told may_leave faults s B mid q (Does step) v walked.at.vault point_step refl (came_same mid.log mid.core step refl)
+    vault = quiet_goes means s B mid q (Does step) v walked.at.vault point_step refl (came_same mid.log mid.core step refl)
         (vault_same (frame_of mid.log mid.core) mid.core.vault u step refl (step_has_vault mid.log mid.log mid.core (core hs z u) step dies));
     none_in_hand = λ up. walked.at.none_in_hand up ∙ sym taken;
   }
 
-  rounds : RoundsWent told may_leave faults plan.txn [] s B p gs hs z v
-  rounds = die_goes told may_leave faults precheck s B p gs hs y z v plan stood.stands fits.plan_is.stands.free death
+  rounds : RoundsWent means plan.txn [] s B p gs hs z v
+  rounds = die_goes means precheck s B p gs hs y z v plan stood.stands fits.plan_is.stands.free death
 
   lives_there : state_of y plan.txn ≡ Some Live
   lives_there = ap (λ (m : SystemState). state_of m plan.txn) (sym stood.stands.at.system) ∙ fits.plan_is.rest.lives
@@ -164,22 +165,22 @@ module _ {V : Type 0} (told : V → Option Disk) (may_leave : V → Disk → Typ
   not_mine : (n : ℕ) → (Owns (Calling x plan) n → ⊥) → (plan.txn == n) ≡ false
   not_mine n other = ne_eqb plan.txn n (λ e. other (sym fits.plan_is.txn ∙ e))
 
-  did_die : Did told may_leave faults precheck s B p w a.client (Calling x plan) gs y v (DiesOn plan.txn r ∷ []) B q hs z v
+  did_die : Did means precheck s B p w a.client (Calling x plan) gs y v (DiesOn plan.txn r ∷ []) B q hs z v
   did_die =
-      did_course told may_leave faults precheck s B p w gs y v stood a.client (Calling x plan) (walked.steps ++ Does step ∷ []) (DiesOn plan.txn r ∷ []) B q hs z v
+      did_course means precheck s B p w gs y v stood a.client (Calling x plan) (walked.steps ++ Does step ∷ []) (DiesOn plan.txn r ∷ []) B q hs z v
       (course_join p mid q walked.steps (Does step ∷ []) walked.course (q, point_step, refl))
       (dies_behind plan.txn r a.client w p mid q walked.steps [] (subst (λ es. AreOfCourse w a.client p walked.steps mid es) (ap (map Logs) (sym none_logged)) walked.are) point_step right)
       at_behind rounds.stands.dead (rounds.places stood.files) calm (λ e. ap (λ (m : SystemState). is_some m.stop) death.system ∙ stood.stops e)
       (λ n lives other. all_then (is_beside n) walked.steps (Does step) (walked.beside n (not_mine n other)) (ap not (not_mine n other)))
       (λ b other. all_then (is_out_of b) walked.steps (Does step) (walked.out b) refl)
-      (λ flag other. image_then told may_leave faults s B B B p mid q gs now.mid.regions hs y now.mid.system z v v v (λ e. e) walked.image
-      (step_image told may_leave faults s B mid q step now.mid.regions now.mid.system v refl point_step (taken ∙ ap (λ (c : CoreState). c.system.taken) (sym walked.core_there)) (ap (λ (c : CoreState). c.system) walked.core_there)))
+      (λ flag other. image_then means s B B B p mid q gs now.mid.regions hs y now.mid.system z v v v (λ e. e) walked.image
+      (step_image means s B mid q step now.mid.regions now.mid.system v refl point_step (taken ∙ ap (λ (c : CoreState). c.system.taken) (sym walked.core_there)) (ap (λ (c : CoreState). c.system) walked.core_there)))
 
   abbrev deeds : List Deed
   deeds = DiesOn x.txn r ∷ []
 
-  did : Did told may_leave faults precheck s B p w a.client (Calling x plan) gs y v deeds B q hs z v
-  did = subst (λ n. Did told may_leave faults precheck s B p w a.client (Calling x plan) gs y v (DiesOn n r ∷ []) B q hs z v) fits.plan_is.txn did_die
+  did : Did means precheck s B p w a.client (Calling x plan) gs y v deeds B q hs z v
+  did = subst (λ n. Did means precheck s B p w a.client (Calling x plan) gs y v (DiesOn n r ∷ []) B q hs z v) fits.plan_is.txn did_die
 
   due : (d : ℕ) × (fits.deadly ≡ Some d) × (operations x.txn a.pending + 1 ≡ d)
   due = deadly_is fits.deadly (operations x.txn a.pending) (sym fits.nearer ∙ deadly)
@@ -219,12 +220,12 @@ module _ {V : Type 0} (told : V → Option Disk) (may_leave : V → Disk → Typ
         λ own. let same : (plan.txn == n) ≡ true = same_number plan.txn n (fits.plan_is.txn ∙ own) in let both : true ≡ false = sym same ∙ f in absurd (cc),
       )
 
-  pub dies_said : j.transcript ≡ with_lines k.transcript (DiedLine ∷ []) → j.state ≡ Gone → Went told may_leave faults precheck s B p w a (Calling x plan) gs y v true j hs z v
+  pub dies_said : j.transcript ≡ with_lines k.transcript (DiedLine ∷ []) → j.state ≡ Gone → Went means precheck s B p w a (Calling x plan) gs y v true j hs z v
   dies_said said state =
-      went_by told may_leave faults precheck s B B p q w a (Calling x plan) gs hs y z v v deeds k j is did move spot refl cause
+      went_by means precheck s B B p q w a (Calling x plan) gs hs y z v v deeds k j is did move spot refl cause
       (ap (λ t. t.client) said) (ap (λ t. map said_of t.lines) said ∙ map-append said_of k.transcript.lines (DiedLine ∷ []))
-      (subst (λ (n : State). Fits told may_leave faults s B q (after w a.client deeds q.core) hs z v (ended a move) (rest_of j) n) (sym state) (record { txn = x.txn; place = refl; none = refl }))
+      (subst (λ (n : State). Fits means s B q (after w a.client deeds q.core) hs z v (ended a move) (rest_of j) n) (sym state) (record { txn = x.txn; place = refl; none = refl }))
       (subst (λ (n : State). RowsTell (Calling x plan) y n z) (sym state) rows)
 
-  pub dies_unsaid : j.transcript ≡ k.transcript → Went told may_leave faults precheck s B p w a (Calling x plan) gs y v false j hs z v
-  dies_unsaid same = went_silent told may_leave faults precheck s B B p q w a (Calling x plan) gs hs y z v v deeds k j is did move spot refl cause same
+  pub dies_unsaid : j.transcript ≡ k.transcript → Went means precheck s B p w a (Calling x plan) gs y v false j hs z v
+  dies_unsaid same = went_silent means precheck s B B p q w a (Calling x plan) gs hs y z v v deeds k j is did move spot refl cause same

@@ -6,25 +6,26 @@ use Rattle.std.proofs.lemmas.Option.{slice_get_within}
 use Rattle.dali_record.specs.declared.records.Record.{Record}
 use Rattle.dali_region.specs.State.{RegionState}
 use Rattle.dali_store.specs.Store.{Files as Disk}
-use Rattle.dali_system.specs.declared.causes.Cause.{Cause}
-use Rattle.dali_system.specs.State.{SystemState, CoreState}
-use Rattle.dali_system.specs.Steps.{store_stopped, in_checkpoint}
-use Rattle.dali_system.specs.Keeps.{with_system}
-use Rattle.dali_system.specs.Courses.{Stops}
+use Rattle.dali_store.specs.declared.store.Store.{Ghosts}
+use Rattle.dali_runs.specs.declared.causes.Cause.{Cause}
+use Rattle.dali_runs.specs.State.{SystemState, CoreState}
+use Rattle.dali_runs.specs.Steps.{store_stopped, in_checkpoint}
+use Rattle.dali_runs.specs.Keeps.{with_system}
+use Rattle.dali_runs.specs.Courses.{Stops}
 use Rattle.dali_crash.specs.Checkpoints.{StoreStep, Does, Finishes, Point, IsPointStep, copies_after, with_flag}
 use Rattle.dali_crash.specs.Traces.{Start, bases_of}
-use Rattle.dali_vault.specs.Vaulted.{Vaulted, faulted}
-use Rattle.dali_steps.specs.At.{Goes}
-use Rattle.dali_steps.proofs.Steps.{quiet_goes}
-use Rattle.dali_whole.specs.Cores.{IsCoreAt}
+use Rattle.dali_core.specs.Vault.Vaulted.{Vaulted, faulted}
+use Rattle.dali_core.specs.Steps.At.{Goes}
+use Rattle.dali_core.proofs.StepsLemmas.Steps.{quiet_goes}
+use Rattle.dali_core.specs.Cores.{IsCoreAt}
 use Rattle.dali_transcripts.specs.Words.{Checkpoints as CheckpointAct, Why as Reason, StoppedBy, Full, Refused, is_stop}
 use Rattle.dali_transcripts.specs.World.{Deed, Meets, StartsCheckpoint, EndsCheckpoint, Happening, World, logged_by, log_of, HasDone, under_way}
 use Rattle.dali_transcripts.specs.Moves.{Receipt, Outside as IsOutside, Spot, at, Move, IsRefusedCheckpoint, own}
 use Rattle.dali_transcripts.specs.Causes.{IsCutAudit, IsCutBy, MaySpan, MetCause, IsStarted, AreUnfinished}
 use Rattle.dali_transcripts.specs.Laws.{receipts_from}
 use Rattle.dali_transcripts.specs.Rounds.{Standing, IsPlaced, by}
-use Rattle.dali_deeds.specs.Tells.{after}
-use Rattle.dali_deeds.specs.Laws.{IsNoFault}
+use Rattle.dali_transcripts.specs.Telling.Tells.{after}
+use Rattle.dali_transcripts.specs.Telling.Laws.{IsNoFault}
 use Rattle.dali_turns.specs.declared.client.Client.{Client}
 use Rattle.dali_turns.specs.declared.client.State.{State}
 use Rattle.dali_turns.specs.declared.client.State.TheVariants.{Outside}
@@ -45,35 +46,35 @@ stop_point m = record m { core = with_system m.core (store_stopped m.core.system
 abbrev pub finish_point : Point → Point
 finish_point m = record m { core = with_flag m.core false; begun = None }
 
-module _ {V : Type 0} (told : V → Option Disk) (may_leave : V → Disk → Type 0) (faults : V → ℕ) where
-  pub stops_there : (s : Start) (B : List (List Record)) (m : Point) (gs : List RegionState) (y : SystemState) (u : Vaulted V) → IsCoreAt told may_leave faults s B m gs y u → u.stopped ≡ true → IsPointStep m (Does Stops) (stop_point m)
+module _ {V : Type 0} (means : Ghosts V) where
+  pub stops_there : (s : Start) (B : List (List Record)) (m : Point) (gs : List RegionState) (y : SystemState) (u : Vaulted V) → IsCoreAt means s B m gs y u → u.stopped ≡ true → IsPointStep m (Does Stops) (stop_point m)
   stops_there s B m gs y u is stopped = (refl, ((is.vault.vault.stopped ∙ stopped, (refl, refl)), refl), refl)
 
-  pub stopped_at : (s : Start) (B : List (List Record)) (m : Point) (gs : List RegionState) (y : SystemState) (u : Vaulted V) → IsCoreAt told may_leave faults s B m gs y u → u.stopped ≡ true
-      → IsCoreAt told may_leave faults s B (stop_point m) gs (store_stopped y) u
+  pub stopped_at : (s : Start) (B : List (List Record)) (m : Point) (gs : List RegionState) (y : SystemState) (u : Vaulted V) → IsCoreAt means s B m gs y u → u.stopped ≡ true
+      → IsCoreAt means s B (stop_point m) gs (store_stopped y) u
   stopped_at s B m gs y u is stopped = record {
     regions = is.regions;
     system = ap store_stopped is.system;
-    vault = quiet_goes told may_leave faults s B m (stop_point m) (Does Stops) u is.vault (stops_there s B m gs y u is stopped) refl (λ F. refl) refl;
+    vault = quiet_goes means s B m (stop_point m) (Does Stops) u is.vault (stops_there s B m gs y u is stopped) refl (λ F. refl) refl;
     none_in_hand = is.none_in_hand;
   }
 
-  pub finishes_there : (s : Start) (B : List (List Record)) (m : Point) (gs : List RegionState) (y : SystemState) (u : Vaulted V) → IsCoreAt told may_leave faults s B m gs y u → y.checking ≡ true → IsPointStep m Finishes (finish_point m)
+  pub finishes_there : (s : Start) (B : List (List Record)) (m : Point) (gs : List RegionState) (y : SystemState) (u : Vaulted V) → IsCoreAt means s B m gs y u → y.checking ≡ true → IsPointStep m Finishes (finish_point m)
   finishes_there s B m gs y u is set = (ap (λ (x : SystemState). x.checking) is.system ∙ set, refl)
 
-  pub finished_at : (s : Start) (B : List (List Record)) (m : Point) (gs : List RegionState) (y : SystemState) (u : Vaulted V) → IsCoreAt told may_leave faults s B m gs y u → y.checking ≡ true
-      → IsCoreAt told may_leave faults s B (finish_point m) gs (in_checkpoint y false) u
+  pub finished_at : (s : Start) (B : List (List Record)) (m : Point) (gs : List RegionState) (y : SystemState) (u : Vaulted V) → IsCoreAt means s B m gs y u → y.checking ≡ true
+      → IsCoreAt means s B (finish_point m) gs (in_checkpoint y false) u
   finished_at s B m gs y u is set = record {
     regions = is.regions;
     system = ap (λ (x : SystemState). in_checkpoint x false) is.system;
-    vault = quiet_goes told may_leave faults s B m (finish_point m) Finishes u is.vault (finishes_there s B m gs y u is set) refl (λ F. refl) refl;
+    vault = quiet_goes means s B m (finish_point m) Finishes u is.vault (finishes_there s B m gs y u is set) refl (λ F. refl) refl;
     none_in_hand = is.none_in_hand;
   }
 
   -- a step that met a fault: the vault stopped, and the rest of the core is as it was
-  pub faulted_at : (s : Start) (B : List (List Record)) (m : Point) (gs : List RegionState) (y : SystemState) (v u : Vaulted V) (x : StoreStep) → IsCoreAt told may_leave faults s B m gs y v
-      → (goes : Goes told may_leave faults s m x B u) → goes.to.core.regions ≡ m.core.regions → goes.to.core.system ≡ m.core.system → u ≡ faulted v u.store
-      → IsCoreAt told may_leave faults s B goes.to gs y u
+  pub faulted_at : (s : Start) (B : List (List Record)) (m : Point) (gs : List RegionState) (y : SystemState) (v u : Vaulted V) (x : StoreStep) → IsCoreAt means s B m gs y v
+      → (goes : Goes means s m x B u) → goes.to.core.regions ≡ m.core.regions → goes.to.core.system ≡ m.core.system → u ≡ faulted v u.store
+      → IsCoreAt means s B goes.to gs y u
   faulted_at s B m gs y v u x is goes regions system vault = record {
     regions = regions ∙ is.regions;
     system = system ∙ is.system;
@@ -99,19 +100,19 @@ done_on w c n d x es e is = record {
     take_front [] B (suc i) less = absurd (omega (arith, less))
     take_front (y ∷ A) B (suc i) less = ap (λ l. y ∷ l) (take_front A B i (omega (arith, less)))
 
-module _ {V : Type 0} (told : V → Option Disk) (may_leave : V → Disk → Type 0) (faults : V → ℕ) where
+module _ {V : Type 0} (means : Ghosts V) where
   -- ---- the end alone
-  module _ (precheck : Bool) (s : Start) (B : List (List Record)) (p : Point) (w : World) (gs : List RegionState) (y : SystemState) (v : Vaulted V) (stood : Stood told may_leave faults s B p w precheck gs y v) (c : ℕ) (state : State) where
-    pub did_finish : Makes state → y.checking ≡ true → under_way w.happened ≡ Some c → Did told may_leave faults precheck s B p w c state gs y v (EndsCheckpoint ∷ []) B (finish_point p) gs (in_checkpoint y false) v
-    did_finish makes set under = did_course told may_leave faults precheck s B p w gs y v stood c state (Finishes ∷ []) (EndsCheckpoint ∷ []) B (finish_point p) gs (in_checkpoint y false) v
-        (finish_point p, finishes_there told may_leave faults s B p gs y v stood.stands.at set, refl)
-        (finish_point p, EndsCheckpoint ∷ [], [], finishes_there told may_leave faults s B p gs y v stood.stands.at set, (refl, under), (tt, tt), (refl, refl), refl)
-        (finished_at told may_leave faults s B p gs y v stood.stands.at set) stood.stands.dead stood.files (record { unclaimed = stood.quiet.unclaimed }) stood.stops
+  module _ (precheck : Bool) (s : Start) (B : List (List Record)) (p : Point) (w : World) (gs : List RegionState) (y : SystemState) (v : Vaulted V) (stood : Stood means s B p w precheck gs y v) (c : ℕ) (state : State) where
+    pub did_finish : Makes state → y.checking ≡ true → under_way w.happened ≡ Some c → Did means precheck s B p w c state gs y v (EndsCheckpoint ∷ []) B (finish_point p) gs (in_checkpoint y false) v
+    did_finish makes set under = did_course means precheck s B p w gs y v stood c state (Finishes ∷ []) (EndsCheckpoint ∷ []) B (finish_point p) gs (in_checkpoint y false) v
+        (finish_point p, finishes_there means s B p gs y v stood.stands.at set, refl)
+        (finish_point p, EndsCheckpoint ∷ [], [], finishes_there means s B p gs y v stood.stands.at set, (refl, under), (tt, tt), (refl, refl), refl)
+        (finished_at means s B p gs y v stood.stands.at set) stood.stands.dead stood.files (record { unclaimed = stood.quiet.unclaimed }) stood.stops
         (λ t lives other. refl) (λ b other. refl) (λ flag other. absurd (other makes))
 
   -- ---- it is refused, and ends
   module _ (precheck : Bool) (s : Start) (B : List (List Record)) (p : Point) (w : World) (a : Standing) (state : State) (gs : List RegionState) (y : SystemState) (v : Vaulted V) (k j : Client)
-      (stood : Stood told may_leave faults s B p w precheck gs y v) (is : IsOf w a k) (makes : Makes state) (none : (t : ℕ) → Owns state t → ⊥)
+      (stood : Stood means s B p w precheck gs y v) (is : IsOf w a k) (makes : Makes state) (none : (t : ℕ) → Owns state t → ⊥)
       (work : List Receipt) (making : IsMaking p w a (rest_of k) work) where
     abbrev number : ℕ
     number = length (log_of w)
@@ -119,7 +120,7 @@ module _ {V : Type 0} (told : V → Option Disk) (may_leave : V → Disk → Typ
     set : y.checking ≡ true
     set = ap (λ (x : SystemState). x.checking) (sym stood.stands.at.system) ∙ making.flag
 
-    ends : Did told may_leave faults precheck s B p w a.client state gs y v (EndsCheckpoint ∷ []) B (finish_point p) gs (in_checkpoint y false) v
+    ends : Did means precheck s B p w a.client state gs y v (EndsCheckpoint ∷ []) B (finish_point p) gs (in_checkpoint y false) v
     ends = did_finish precheck s B p w gs y v stood a.client state makes set making.under
 
     abbrev mid : World
@@ -145,7 +146,7 @@ module _ {V : Type 0} (told : V → Option Disk) (may_leave : V → Disk → Typ
     pub refusal_stop : (cause : Cause) → y.stop ≡ Some cause → ((l : World) → IsCutAudit l true work) → Refusal (StoppedBy cause)
     refusal_stop cause stop cut = record {
       no_fault = tt;
-      cause = stop_now (bases_of s) s.log mid a.client (finish_point p) ends.stood.stands.at.vault.run ends.goes.tells (vault_stops told may_leave faults precheck s B p w gs y v stood) CheckpointAct None cause tt
+      cause = stop_now (bases_of s) s.log mid a.client (finish_point p) ends.stood.stands.at.vault.run ends.goes.tells (vault_stops means precheck s B p w gs y v stood) CheckpointAct None cause tt
           (ap (λ (m : SystemState). m.stop) stood.stands.at.system ∙ stop);
       stops = λ e. ap is_some stop;
       cut = cut;
@@ -157,7 +158,7 @@ module _ {V : Type 0} (told : V → Option Disk) (may_leave : V → Disk → Typ
     refusal_full runs above none_yet = record {
       no_fault = tt;
       cause = subst (λ (m : SystemState). HasCauseNow mid a.client (finish_point p).core CheckpointAct None (full_audit m)) stood.stands.at.system
-          (full_checkpoint_now (bases_of s) s.log mid a.client (finish_point p) ends.stood.stands.at.vault.run ends.goes.tells (vault_stops told may_leave faults precheck s B p w gs y v stood) (ap (λ (m : SystemState). m.stop) stood.stands.at.system ∙ runs)
+          (full_checkpoint_now (bases_of s) s.log mid a.client (finish_point p) ends.stood.stands.at.vault.run ends.goes.tells (vault_stops means precheck s B p w gs y v stood) (ap (λ (m : SystemState). m.stop) stood.stands.at.system ∙ runs)
           (subst (λ (m : SystemState). m.limit + 1048576 < m.end + 1) (sym stood.stands.at.system) above));
       stops = λ e. absurd (cc);
       cut = λ l. none_yet;
@@ -168,9 +169,9 @@ module _ {V : Type 0} (told : V → Option Disk) (may_leave : V → Disk → Typ
       abbrev deeds : List Deed
       deeds = EndsCheckpoint ∷ Meets r ∷ []
 
-      did : Did told may_leave faults precheck s B p w a.client state gs y v deeds B (finish_point p) gs (in_checkpoint y false) v
-      did = did_then told may_leave faults precheck s B B B p (finish_point p) (finish_point p) w a.client state gs gs gs y (in_checkpoint y false) (in_checkpoint y false) v v v (EndsCheckpoint ∷ []) (Meets r ∷ []) stood (λ e. e) ends
-          (did_meet told may_leave faults precheck s B (finish_point p) mid gs (in_checkpoint y false) v ends.stood a.client state r h.no_fault (right_now mid a.client (finish_point p).core CheckpointAct None r h.cause))
+      did : Did means precheck s B p w a.client state gs y v deeds B (finish_point p) gs (in_checkpoint y false) v
+      did = did_then means precheck s B B B p (finish_point p) (finish_point p) w a.client state gs gs gs y (in_checkpoint y false) (in_checkpoint y false) v v v (EndsCheckpoint ∷ []) (Meets r ∷ []) stood (λ e. e) ends
+          (did_meet means precheck s B (finish_point p) mid gs (in_checkpoint y false) v ends.stood a.client state r h.no_fault (right_now mid a.client (finish_point p).core CheckpointAct None r h.cause))
 
       abbrev move : Move
       move = IsRefusedCheckpoint false (Some (making.since, number)) true work number r making.more
@@ -184,20 +185,20 @@ module _ {V : Type 0} (told : V → Option Disk) (may_leave : V → Disk → Typ
           (subst (λ (n : ℕ). MetCause (after mid a.client (Meets r ∷ []) (finish_point p).core) a.client n CheckpointAct None r) mid_number (met_now mid a.client (finish_point p).core CheckpointAct None r h.cause))
 
       pub given_up : j.transcript.client ≡ k.transcript.client → lines_of j ≡ lines_of k ++ Refused CheckpointAct r ∷ [] → rest_of j ≡ making.more → j.state ≡ Outside
-          → Went told may_leave faults precheck s B p w a state gs y v true j gs (in_checkpoint y false) v
+          → Went means precheck s B p w a state gs y v true j gs (in_checkpoint y false) v
       given_up client lines rest now =
-          went_by told may_leave faults precheck s B B p (finish_point p) w a state gs gs y (in_checkpoint y false) v v deeds k j is did move starts own_is (h.cut (after w a.client deeds (finish_point p).core), h.spans, (met, alone_behind (after w a.client deeds (finish_point p).core) r (making.since, number) met.met.place)) client lines
-          (subst (λ (x : State). Fits told may_leave faults s B (finish_point p) (after w a.client deeds (finish_point p).core) gs (in_checkpoint y false) v (ended a move) (rest_of j) x) (sym now) (outside_by (in_checkpoint y false) a move (is_stop r) making.more (rest_of j) rest (λ e. h.stops e) refl placed))
+          went_by means precheck s B B p (finish_point p) w a state gs gs y (in_checkpoint y false) v v deeds k j is did move starts own_is (h.cut (after w a.client deeds (finish_point p).core), h.spans, (met, alone_behind (after w a.client deeds (finish_point p).core) r (making.since, number) met.met.place)) client lines
+          (subst (λ (x : State). Fits means s B (finish_point p) (after w a.client deeds (finish_point p).core) gs (in_checkpoint y false) v (ended a move) (rest_of j) x) (sym now) (outside_by (in_checkpoint y false) a move (is_stop r) making.more (rest_of j) rest (λ e. h.stops e) refl placed))
           (rows_same state j.state y (in_checkpoint y false) refl none)
 
-      pub given_up_silent : j.transcript ≡ k.transcript → Went told may_leave faults precheck s B p w a state gs y v false j gs (in_checkpoint y false) v
+      pub given_up_silent : j.transcript ≡ k.transcript → Went means precheck s B p w a state gs y v false j gs (in_checkpoint y false) v
       given_up_silent same =
-          went_silent told may_leave faults precheck s B B p (finish_point p) w a state gs gs y (in_checkpoint y false) v v deeds k j is did move starts own_is (h.cut (after w a.client deeds (finish_point p).core), h.spans, (met, alone_behind (after w a.client deeds (finish_point p).core) r (making.since, number) met.met.place)) same
+          went_silent means precheck s B B p (finish_point p) w a state gs gs y (in_checkpoint y false) v v deeds k j is did move starts own_is (h.cut (after w a.client deeds (finish_point p).core), h.spans, (met, alone_behind (after w a.client deeds (finish_point p).core) r (making.since, number) met.met.place)) same
 
     -- memory was refused
-    pub given_up_none : ((m n : ℕ) → IsStarted ((m, StartsCheckpoint) ∷ (work ++ (n, EndsCheckpoint) ∷ []))) → j.transcript ≡ k.transcript → Went told may_leave faults precheck s B p w a state gs y v false j gs (in_checkpoint y false) v
+    pub given_up_none : ((m n : ℕ) → IsStarted ((m, StartsCheckpoint) ∷ (work ++ (n, EndsCheckpoint) ∷ []))) → j.transcript ≡ k.transcript → Went means precheck s B p w a state gs y v false j gs (in_checkpoint y false) v
     given_up_none started same =
-        went_on told may_leave faults precheck s B B p (finish_point p) w a state gs gs y (in_checkpoint y false) v v (EndsCheckpoint ∷ []) k j is ends false same
+        went_on means precheck s B B p (finish_point p) w a state gs gs y (in_checkpoint y false) v v (EndsCheckpoint ∷ []) k j is ends false same
         (inl (refl, unfinished (a.pending ++ (number, EndsCheckpoint) ∷ []) (ap (λ xs. xs ++ (number, EndsCheckpoint) ∷ []) making.pending) a.spot starts))
         (λ e. absurd (cc))
       where

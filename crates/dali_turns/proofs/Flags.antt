@@ -2,11 +2,11 @@
 use Rattle.std.proofs.Common.{◌≡◌, ℕ, Bool, List, Some, Result, Ok, Err, OnOk, OnErr, refl, sym, subst}
 use Rattle.std.specs.Prelude.{slice_get, slice_set}
 use Rattle.dali_region.specs.State.{RegionState, touched, dead, poked}
-use Rattle.dali_system.specs.State.{SystemState}
+use Rattle.dali_runs.specs.State.{SystemState}
 use Rattle.dali_calls.specs.Flags.{FlagStays, FlagsStay}
 use Rattle.dali_calls.specs.Plans.{Planned}
 use Rattle.dali_calls.proofs.Flags.{flag_further, flag_kept, flag_touched, flags_set, goes_flag}
-use Rattle.dali_stepwise.specs.Stepwise.{OneFurther, IsDeath}
+use Rattle.dali_calls.specs.Stepwise.Stepwise.{OneFurther, IsDeath}
 
 -- ---- all regions
 

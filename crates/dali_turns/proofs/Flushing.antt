@@ -3,16 +3,17 @@ use Rattle.std.proofs.Common.{◌≡◌, ℕ, Bool, true, false, List, [], ◌�
 use Rattle.dali_record.specs.declared.records.Record.{Record}
 use Rattle.dali_region.specs.State.{RegionState}
 use Rattle.dali_store.specs.Store.{Files as Disk}
-use Rattle.dali_system.specs.declared.causes.Cause.{Cause}
-use Rattle.dali_system.specs.State.{SystemState, VaultState}
-use Rattle.dali_system.specs.Steps.{taken, store_stopped, stopped_by}
-use Rattle.dali_system.specs.Wholes.{IsWhole}
-use Rattle.dali_system.specs.Courses.{Takes, Flushes, Faults, Stops}
+use Rattle.dali_store.specs.declared.store.Store.{Ghosts}
+use Rattle.dali_runs.specs.declared.causes.Cause.{Cause}
+use Rattle.dali_runs.specs.State.{SystemState, VaultState}
+use Rattle.dali_runs.specs.Steps.{taken, store_stopped, stopped_by}
+use Rattle.dali_runs.specs.Wholes.{IsWhole}
+use Rattle.dali_runs.specs.Courses.{Takes, Flushes, Faults, Stops}
 use Rattle.dali_crash.specs.Checkpoints.{Does, Point, target}
 use Rattle.dali_crash.specs.Traces.{Start}
-use Rattle.dali_vault.specs.Vaulted.{Vaulted}
-use Rattle.dali_whole.specs.Cores.{IsWholeCore}
-use Rattle.dali_whole.specs.Flushed.{AllFlushed, HasStopped}
+use Rattle.dali_core.specs.Vault.Vaulted.{Vaulted}
+use Rattle.dali_core.specs.Cores.{IsWholeCore}
+use Rattle.dali_core.specs.Flushed.{AllFlushed, HasStopped}
 use Rattle.dali_checkpoint.proofs.Stays.{Stays, both_stay, all_copied_on, is_of_on, same_target}
 use Rattle.dali_transcripts.specs.Words.{StoreFailed}
 use Rattle.dali_transcripts.specs.World.{Meets, World}
@@ -36,12 +37,12 @@ quiet_stopped : (y z : SystemState) → z ≡ store_stopped (taken y) → IsQuie
 quiet_stopped y z is quiet = subst IsQuiet (sym is) (record { unclaimed = quiet.unclaimed })
 
 -- a checkpoint of another client
-module _ {V : Type 0} (told : V → Option Disk) (may_leave : V → Disk → Type 0) (faults : V → ℕ)
-    (s : Start) (B : List (List Record)) (p : Point) (gs : List RegionState) (y z : SystemState) (v u : Vaulted V) (is : z ≡ taken y) (f : AllFlushed told may_leave faults s p gs v z u) where
+module _ {V : Type 0} (means : Ghosts V)
+    (s : Start) (B : List (List Record)) (p : Point) (gs : List RegionState) (y z : SystemState) (v u : Vaulted V) (is : z ≡ taken y) (f : AllFlushed means s p gs v z u) where
   stay : Stays p f.to
   stay = both_stay p f.to f.course
 
-  pub flush_image : ImageStays told may_leave faults s B p gs y v f.batches f.to gs z u
+  pub flush_image : ImageStays means s B p gs y v f.batches f.to gs z u
   flush_image = record {
     flag = ap (λ (m : SystemState). m.checking) is;
     copying = λ _ c h k. record {
@@ -64,10 +65,10 @@ module _ {V : Type 0} (told : V → Option Disk) (may_leave : V → Disk → Typ
     passes = λ _ c h n b k tell. tells_on p f.to h n b f.course k.copies tell;
   }
 
-module _ {V : Type 0} (told : V → Option Disk) (may_leave : V → Disk → Type 0) (faults : V → ℕ)
+module _ {V : Type 0} (means : Ghosts V)
     (precheck : Bool) (s : Start) (B : List (List Record)) (p : Point) (w : World) (c : ℕ) (state : State) (gs : List RegionState) (y z : SystemState) (v u : Vaulted V)
-    (stood : Stood told may_leave faults s B p w precheck gs y v) where
-  pub whole_now : IsWholeCore told gs y v
+    (stood : Stood means s B p w precheck gs y v) where
+  pub whole_now : IsWholeCore means.told gs y v
   whole_now = record {
     parts = λ x. same x (subst (λ (rs : List RegionState). IsWhole (record { regions = rs; system = y; vault = p.core.vault })) stood.stands.at.regions
         (subst (λ (m : SystemState). IsWhole (record { regions = p.core.regions; system = m; vault = p.core.vault })) stood.stands.at.system stood.stands.whole));
@@ -78,17 +79,17 @@ module _ {V : Type 0} (told : V → Option Disk) (may_leave : V → Disk → Typ
       same x k = record { regions = k.regions; undos = k.undos; dead = k.dead; named = k.named; live = k.live }
 
   -- ---- Ok
-  module _ (is : z ≡ taken y) (runs : u.stopped ≡ false) (whole : IsWholeCore told gs y v → IsWholeCore told gs z u) (f : AllFlushed told may_leave faults s p gs v z u) where
-    pub did_flush : Did told may_leave faults precheck s B p w c state gs y v [] f.batches f.to gs z u
-    did_flush = did_course told may_leave faults precheck s B p w gs y v stood c state (Does Takes ∷ Does Flushes ∷ []) [] f.batches f.to gs z u f.course
+  module _ (is : z ≡ taken y) (runs : u.stopped ≡ false) (whole : IsWholeCore means.told gs y v → IsWholeCore means.told gs z u) (f : AllFlushed means s p gs v z u) where
+    pub did_flush : Did means precheck s B p w c state gs y v [] f.batches f.to gs z u
+    did_flush = did_course means precheck s B p w gs y v stood c state (Does Takes ∷ Does Flushes ∷ []) [] f.batches f.to gs z u f.course
         (f.course.0, [], [], f.course.1, refl, tt, (f.course.2.0, [], [], f.course.2.1, refl, tt, (f.course.2.2, refl), refl), refl)
         f.at stood.stands.dead (whole whole_now).files (quiet_taken y z is stood.quiet) (λ e. let no : true ≡ false = sym e ∙ runs in absurd (cc))
-        (λ t lives other. refl) (λ b other. refl) (λ flag other. flush_image told may_leave faults s B p gs y z v u is f)
+        (λ t lives other. refl) (λ b other. refl) (λ flag other. flush_image means s B p gs y z v u is f)
 
   -- ---- a fault
-  module _ (is : z ≡ store_stopped (taken y)) (stopped : u.stopped ≡ true) (whole : IsWholeCore told gs y v → IsWholeCore told gs z u) (f : HasStopped told may_leave faults s B p gs z u) where
-    pub did_fault : Did told may_leave faults precheck s B p w c state gs y v (Meets StoreFailed ∷ []) B f.to gs z u
-    did_fault = did_course told may_leave faults precheck s B p w gs y v stood c state (Does Takes ∷ Does (Faults (faults u.store)) ∷ Does Stops ∷ []) (Meets StoreFailed ∷ []) B f.to gs z u f.course
+  module _ (is : z ≡ store_stopped (taken y)) (stopped : u.stopped ≡ true) (whole : IsWholeCore means.told gs y v → IsWholeCore means.told gs z u) (f : HasStopped means s B p gs z u) where
+    pub did_fault : Did means precheck s B p w c state gs y v (Meets StoreFailed ∷ []) B f.to gs z u
+    did_fault = did_course means precheck s B p w gs y v stood c state (Does Takes ∷ Does (Faults (means.faults u.store)) ∷ Does Stops ∷ []) (Meets StoreFailed ∷ []) B f.to gs z u f.course
         (f.course.0, [], Meets StoreFailed ∷ [], f.course.1, refl, tt, (f.course.2.0, Meets StoreFailed ∷ [], [], f.course.2.1, refl, (tt, tt), (f.course.2.2.0, [], [], f.course.2.2.1, refl, tt, (f.course.2.2.2, refl), refl), refl), refl)
         f.at stood.stands.dead (whole whole_now).files (quiet_stopped y z is stood.quiet) (λ e. ap (λ (m : SystemState). is_some m.stop) is ∙ has_stop y.stop)
         (λ t lives other. refl) (λ b other. refl)

@@ -4,7 +4,7 @@ use Rattle.std.specs.Prelude.{◌==◌, ◌&&◌, if◌then◌else◌, Contains,
 use Rattle.std.specs.List.{list_any}
 use Rattle.std.proofs.lemmas.List.Elements.{Contains-append_left}
 use Rattle.dali_lists.proofs.Lists.{drop_front}
-use Rattle.dali_counts.proofs.Lists.{self, equal, some_same}
+use Rattle.dali_runs.proofs.CountsLemmas.Lists.{self, equal, some_same}
 use Rattle.dali_record.specs.declared.records.Record.{Record}
 use Rattle.dali_record.specs.declared.records.Record.TheVariants.{Ended}
 use Rattle.dali_record.specs.Epochs.{separates, last_epoch}
@@ -12,20 +12,20 @@ use Rattle.dali_record.specs.Legal.{txn_state}
 use Rattle.dali_locks.specs.declared.mode.Mode.{Mode}
 use Rattle.dali_locks.specs.declared.mode.Mode.TheVariants.{Shared, Exclusive}
 use Rattle.dali_locks.specs.Locks.{both_shared, stronger_mode}
-use Rattle.dali_system.specs.Run.{Bases, RunsOn, no_image}
-use Rattle.dali_system.specs.State.{SystemState, row_of, state_in, state_of, lock_of}
-use Rattle.dali_system.proofs.LastEpochs.{last_epoch-append, none_separates}
-use Rattle.dali_facts.proofs.KeysAndUndos.{ended_over, over_row}
+use Rattle.dali_runs.specs.Run.{Bases, RunsOn, no_image}
+use Rattle.dali_runs.specs.State.{SystemState, row_of, state_in, state_of, lock_of}
+use Rattle.dali_runs.proofs.LastEpochs.{last_epoch-append, none_separates}
+use Rattle.dali_runs.proofs.FactsLemmas.KeysAndUndos.{ended_over, over_row}
 use Rattle.dali_crash.specs.Checkpoints.{Point}
 use Rattle.dali_crash.specs.StoreRuns.{StoreRun}
 use Rattle.dali_transcripts.specs.World.{Logs, GetsLock, Happening, World, logged_by, HasGot, lock_step, IsNoWeaker, Grows}
 use Rattle.dali_transcripts.specs.Moves.{Spot}
 use Rattle.dali_transcripts.specs.Rounds.{Standing}
-use Rattle.dali_deeds.specs.Tells.{Tells}
+use Rattle.dali_transcripts.specs.Telling.Tells.{Tells}
 use Rattle.dali_turns.specs.Within.{AreGot}
 use Rattle.dali_turns.specs.Fits.{InTxn, OthersGot}
 use Rattle.dali_turns.proofs.Refusals.{runs_on_log}
-use Rattle.dali_rounds.specs.Went.{is_open}
+use Rattle.dali_transactions.specs.Beside.Went.{is_open}
 
 -- a lock that was granted once, was granted later too
 pub got_more : (w v : World) (g : Grows w v) (c t k : ℕ) (m : Mode) → HasGot w.happened c t k m → HasGot v.happened c t k m

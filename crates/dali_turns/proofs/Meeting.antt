@@ -12,23 +12,23 @@ use Rattle.dali_region.specs.State.{RegionState}
 use Rattle.dali_region.specs.Answers.{latch_answer}
 use Rattle.dali_region.specs.declared.LatchError.{LatchError}
 use Rattle.dali_region.specs.declared.LatchError.TheVariants.{DeadHolder, Damaged}
-use Rattle.dali_system.specs.Keeps.{HasRoom}
-use Rattle.dali_system.specs.State.{SystemState}
-use Rattle.dali_system.specs.declared.causes.Cause.{Cause}
-use Rattle.dali_core.specs.Refused.{refusal}
-use Rattle.dali_core.specs.declared.error.SystemError.{SystemError}
-use Rattle.dali_core.specs.declared.error.SystemError.TheVariants.{Stopped, LogFull, OutOfMemory}
-use Rattle.dali_core.specs.declared.want.Want.{Want}
-use Rattle.dali_core.specs.declared.want.Want.TheVariants.{Region, Done as AnswerIsNext, Nothing}
+use Rattle.dali_runs.specs.Keeps.{HasRoom}
+use Rattle.dali_runs.specs.State.{SystemState}
+use Rattle.dali_runs.specs.declared.causes.Cause.{Cause}
+use Rattle.dali_system.specs.Refused.{refusal}
+use Rattle.dali_system.specs.declared.error.SystemError.{SystemError}
+use Rattle.dali_system.specs.declared.error.SystemError.TheVariants.{Stopped, LogFull, OutOfMemory}
+use Rattle.dali_system.specs.declared.want.Want.{Want}
+use Rattle.dali_system.specs.declared.want.Want.TheVariants.{Region, Done as AnswerIsNext, Nothing}
 use Rattle.dali_calls.specs.Steps.{call_key, answer_of, IsBlockOf}
 use Rattle.dali_calls.specs.Plans.{Planned, plan_next, want_in, want_of, is_back, commit_refusal}
-use Rattle.dali_single.specs.declared.error.StepError.{StepError}
-use Rattle.dali_single.specs.declared.error.StepError.TheVariants.{Latch, System}
-use Rattle.dali_single.specs.Refusals.{IsAnswerTo, IsRefusedOn, IsUnanswered, IsRefusedIn, IsRefusal, IsLatched}
-use Rattle.dali_stepwise.specs.Opened.{IsOpened, IsLogged}
-use Rattle.dali_stepwise.specs.Stepwise.{OneFurther, IsDeath}
-use Rattle.dali_clients.specs.declared.line.Why.{Why}
-use Rattle.dali_clients.specs.declared.line.Why.TheVariants.{Stopped as IsStopped, LogFull as IsFull, Damaged as IsDamaged}
+use Rattle.dali_calls.specs.declared.single.error.StepError.{StepError}
+use Rattle.dali_calls.specs.declared.single.error.StepError.TheVariants.{Latch, System}
+use Rattle.dali_calls.specs.Single.Refusals.{IsAnswerTo, IsRefusedOn, IsUnanswered, IsRefusedIn, IsRefusal, IsLatched}
+use Rattle.dali_calls.specs.Stepwise.Opened.{IsOpened, IsLogged}
+use Rattle.dali_calls.specs.Stepwise.Stepwise.{OneFurther, IsDeath}
+use Rattle.dali_transcripts.specs.declared.clients.line.Why.{Why}
+use Rattle.dali_transcripts.specs.declared.clients.line.Why.TheVariants.{Stopped as IsStopped, LogFull as IsFull, Damaged as IsDamaged}
 use Rattle.dali_turns.specs.declared.client.Client.{Client}
 use Rattle.dali_turns.specs.declared.client.State.{State}
 use Rattle.dali_turns.specs.declared.client.Transaction.{Transaction}

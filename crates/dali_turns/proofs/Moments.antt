@@ -6,20 +6,21 @@ use Rattle.dali_record.specs.declared.records.Record.{Record}
 use Rattle.dali_record.specs.Files.{Files}
 use Rattle.dali_region.specs.State.{RegionState}
 use Rattle.dali_store.specs.Store.{Files as Disk}
-use Rattle.dali_system.specs.State.{SystemState, log_after}
+use Rattle.dali_store.specs.declared.store.Store.{Ghosts}
+use Rattle.dali_runs.specs.State.{SystemState, log_after}
 use Rattle.dali_crash.specs.Checkpoints.{Point, StoreStep, IsPointCourse}
 use Rattle.dali_crash.specs.Traces.{Start}
 use Rattle.dali_crash.proofs.StoreStarts.{store_goes}
-use Rattle.dali_traces.specs.Disks.{Spells, AllSpell}
-use Rattle.dali_traces.specs.Bridges.{LeavesRightAt}
-use Rattle.dali_vault.specs.Vaulted.{Vaulted}
-use Rattle.dali_steps.proofs.Steps.{crash_is_right}
-use Rattle.dali_whole.specs.Moments.{Within}
-use Rattle.dali_whole.proofs.Moments.{leaves_more}
+use Rattle.dali_crash.specs.Disks.Disks.{Spells, AllSpell}
+use Rattle.dali_crash.specs.Disks.Bridges.{LeavesRightAt}
+use Rattle.dali_core.specs.Vault.Vaulted.{Vaulted}
+use Rattle.dali_core.proofs.StepsLemmas.Steps.{crash_is_right}
+use Rattle.dali_core.specs.Moments.{Within}
+use Rattle.dali_core.proofs.Moments.{leaves_more}
 use Rattle.dali_checkpoint.proofs.Moments.{each_told, there, no_call}
 use Rattle.dali_checkpoint.proofs.Calls.{course_join}
-use Rattle.dali_clients.specs.Told.{act_of}
-use Rattle.dali_ends.specs.Stands.{StandsAt}
+use Rattle.dali_transcripts.specs.Clients.Told.{act_of}
+use Rattle.dali_transactions.specs.Stands.{StandsAt}
 use Rattle.dali_turns.specs.declared.client.Client.{Client}
 use Rattle.dali_turns.specs.declared.client.State.{State}
 use Rattle.dali_turns.specs.Fits.{rest_of, Fits}
@@ -46,9 +47,9 @@ in_step s p gs z c D = (D.0, D.1, record { to = D.2.to; steps = D.2.steps; cours
 right_here : (s : Start) (p : Point) (gs : List RegionState) (z : SystemState) (c : Disk) → p.core.regions ≡ gs → ((F : Files) × Spells c F × LeavesRightAt s p F) → LeavesInStep s p gs z c
 right_here s p gs z c regions D = (D.0, D.1, record { to = p; steps = []; course = refl; log = inl refl; regions = regions; right = D.2 })
 
-pub crash_right : {V : Type 0} (told : V → Option Disk) (may_leave : V → Disk → Type 0) (faults : V → ℕ) (s : Start) (B : List (List Record)) (p : Point) (gs : List RegionState) (y : SystemState) (v : Vaulted V)
-    → StandsAt told may_leave faults s B p gs y v → IfSome (told v.store) (λ _. AllSpell (may_leave v.store) (LeavesRightAt s p))
-crash_right told may_leave faults s B p gs y v stands = crash_is_right told may_leave faults s B p v stands.at.vault
+pub crash_right : {V : Type 0} (means : Ghosts V) (s : Start) (B : List (List Record)) (p : Point) (gs : List RegionState) (y : SystemState) (v : Vaulted V)
+    → StandsAt means s B p gs y v → IfSome (means.told v.store) (λ _. AllSpell (means.may_leave v.store) (LeavesRightAt s p))
+crash_right means s B p gs y v stands = crash_is_right means s B p v stands.at.vault
 
 -- where the step has come to a point with the log of the core x, which tells what the core z does or more
 pub up_to : (s : Start) (p q : Point) (gs : List RegionState) (z x : SystemState) (c : Disk) → ((more : List Record) × (p.log ++ more ≡ q.log)) → q.log ≡ log_after s.log x → ((l : List Record) → Extends s z l → Extends s x l)
@@ -74,23 +75,23 @@ pub record IsBehind {V : Type 0} (told : V → Option Disk) (v : Vaulted V) (P :
   pub log : Extends s z to.log
   pub right : IfSome (told v.store) (λ _. AllSpell P (IsRightIn s to gs))
 
-module _ {V : Type 0} (told : V → Option Disk) (may_leave : V → Disk → Type 0) (faults : V → ℕ) (moment : V → ℕ) (left_since : V → ℕ → Disk → Type 0)
+module _ {V : Type 0} (means : Ghosts V)
     (state : State) (k : Client) (gs : List RegionState) (y z : SystemState) (v u : Vaulted V) where
   -- the step made no call of the store
-  pub leaves_still : ((c : Disk) → left_since v.store (moment v.store) c → may_leave v.store c) → u ≡ v → StepLeavesRight told may_leave faults moment left_since state k gs y v z u
-  leaves_still now same precheck s B p w a stood of fits = each_told (told v.store) _ (λ e. leaves_more moment left_since v.store u.store (may_leave v.store) (LeavesInStep s p gs z)
-      (λ c left. right_here s p gs z c stood.stands.at.regions (there (told v.store) _ e (crash_right told may_leave faults s B p gs y v stood.stands) c left))
-      (there (told v.store) _ e (no_call told may_leave faults moment left_since v u (may_leave v.store) now same (λ c left. left))))
+  pub leaves_still : ((c : Disk) → means.left_since v.store (means.moment v.store) c → means.may_leave v.store c) → u ≡ v → StepLeavesRight means state k gs y v z u
+  leaves_still now same precheck s B p w a stood of fits = each_told (means.told v.store) _ (λ e. leaves_more means.moment means.left_since v.store u.store (means.may_leave v.store) (LeavesInStep s p gs z)
+      (λ c left. right_here s p gs z c stood.stands.at.regions (there (means.told v.store) _ e (crash_right means s B p gs y v stood.stands) c left))
+      (there (means.told v.store) _ e (no_call means v u (means.may_leave v.store) now same (λ c left. left))))
 
-  module _ (P : Disk → Type 0) (within : Within told moment left_since v u P) (s : Start) (p : Point) where
+  module _ (P : Disk → Type 0) (within : Within means.told means.moment means.left_since v u P) (s : Start) (p : Point) where
     -- its calls leave these disks, which restart right from where the run has come
-    pub leaves_by : IfSome (told v.store) (λ _. AllSpell P (IsRightIn s p gs)) → Within told moment left_since v u (LeavesInStep s p gs z)
-    leaves_by right = each_told (told v.store) _ (λ e. leaves_more moment left_since v.store u.store P (LeavesInStep s p gs z)
-        (λ c left. in_step s p gs z c (there (told v.store) _ e right c left)) (there (told v.store) _ e within))
+    pub leaves_by : IfSome (means.told v.store) (λ _. AllSpell P (IsRightIn s p gs)) → Within means.told means.moment means.left_since v u (LeavesInStep s p gs z)
+    leaves_by right = each_told (means.told v.store) _ (λ e. leaves_more means.moment means.left_since v.store u.store P (LeavesInStep s p gs z)
+        (λ c left. in_step s p gs z c (there (means.told v.store) _ e right c left)) (there (means.told v.store) _ e within))
 
-    pub leaves_behind : IsBehind told v P gs z s p → Within told moment left_since v u (LeavesInStep s p gs z)
-    leaves_behind b = each_told (told v.store) _ (λ e. leaves_more moment left_since v.store u.store P (LeavesInStep s p gs z)
-        (λ c left. let D = there (told v.store) _ e b.right c left in (
+    pub leaves_behind : IsBehind means.told v P gs z s p → Within means.told means.moment means.left_since v u (LeavesInStep s p gs z)
+    leaves_behind b = each_told (means.told v.store) _ (λ e. leaves_more means.moment means.left_since v.store u.store P (LeavesInStep s p gs z)
+        (λ c left. let D = there (means.told v.store) _ e b.right c left in (
           D.0,
           D.1,
           record {
@@ -102,37 +103,37 @@ module _ {V : Type 0} (told : V → Option Disk) (may_leave : V → Disk → Typ
             right = D.2.right;
           },
         ))
-        (there (told v.store) _ e within))
+        (there (means.told v.store) _ e within))
 
   -- the client stands so
-  pub leaves_at : (st : State) → state ≡ st → StepLeavesRight told may_leave faults moment left_since st k gs y v z u → StepLeavesRight told may_leave faults moment left_since state k gs y v z u
-  leaves_at st is leaves = subst (λ (x : State). StepLeavesRight told may_leave faults moment left_since x k gs y v z u) (sym is) leaves
+  pub leaves_at : (st : State) → state ≡ st → StepLeavesRight means st k gs y v z u → StepLeavesRight means state k gs y v z u
+  leaves_at st is leaves = subst (λ (x : State). StepLeavesRight means x k gs y v z u) (sym is) leaves
 
-module _ {V : Type 0} (told : V → Option Disk) (may_leave : V → Disk → Type 0) (faults : V → ℕ) (moment : V → ℕ) (left_since : V → ℕ → Disk → Type 0) where
+module _ {V : Type 0} (means : Ghosts V) where
   -- its state was taken out of it
   pub leaves_stepped : (gs : List RegionState) (y z : SystemState) (v u : Vaulted V) (k j : Client) (state : State) → k.state ≡ state → TellsSame k j
-      → StepLeavesRight told may_leave faults moment left_since state j gs y v z u → StepLeavesRight told may_leave faults moment left_since k.state k gs y v z u
+      → StepLeavesRight means state j gs y v z u → StepLeavesRight means k.state k gs y v z u
   leaves_stepped gs y z v u k j state e same leaves precheck s B p w a stood is fits =
-      leaves precheck s B p w a stood (is_told told may_leave faults w a k j same is)
-      (subst (λ l. Fits told may_leave faults s B p w gs y v a l state) (sym (ap (map act_of) same.rest)) (subst (λ (st : State). Fits told may_leave faults s B p w gs y v a (rest_of k) st) e fits))
+      leaves precheck s B p w a stood (is_told means w a k j same is)
+      (subst (λ l. Fits means s B p w gs y v a l state) (sym (ap (map act_of) same.rest)) (subst (λ (st : State). Fits means s B p w gs y v a (rest_of k) st) e fits))
 
   -- nothing has changed before
   pub makes_from :
       {C : Type 0} (precheck : Bool) (j k : Client) (new old : C) (regions : C → List RegionState) (system : C → SystemState) (vault : C → Vaulted V) (r : Result Bool NoMemory) (n : Client) (hs : List RegionState) (z : SystemState) (u : Vaulted V) → j ≡ k → new ≡ old
-      → MakesStep told may_leave faults moment left_since precheck j.state j (regions new) (system new) (vault new) r n hs z u → MakesStep told may_leave faults moment left_since precheck k.state k (regions old) (system old) (vault old) r n hs z u
+      → MakesStep means precheck j.state j (regions new) (system new) (vault new) r n hs z u → MakesStep means precheck k.state k (regions old) (system old) (vault old) r n hs z u
   makes_from {C} precheck j k new old regions system vault r n hs z u client core makes =
-      subst (λ (c : C). MakesStep told may_leave faults moment left_since precheck k.state k (regions c) (system c) (vault c) r n hs z u) core
-      (subst (λ (x : Client). MakesStep told may_leave faults moment left_since precheck x.state x (regions new) (system new) (vault new) r n hs z u) client makes)
+      subst (λ (c : C). MakesStep means precheck k.state k (regions c) (system c) (vault c) r n hs z u) core
+      (subst (λ (x : Client). MakesStep means precheck x.state x (regions new) (system new) (vault new) r n hs z u) client makes)
 
   -- the receipts stood apart during the step
   pub turn_leaves : (precheck ok : Bool) (gs hs : List RegionState) (y z : SystemState) (v u : Vaulted V) (k before behind : Client) → LooksSame k before
-      → StepGoes told may_leave faults precheck before.state before gs y v ok behind hs z u → StepLeavesRight told may_leave faults moment left_since before.state before gs y v z u
-      → TurnLeavesRight told may_leave faults moment left_since precheck k gs y v z u
+      → StepGoes means precheck before.state before gs y v ok behind hs z u → StepLeavesRight means before.state before gs y v z u
+      → TurnLeavesRight means precheck k gs y v z u
   turn_leaves precheck ok gs hs y z v u k before behind same goes leaves s B p w a stood is fits =
-      let is_before = is_same told may_leave faults w a k before same is in
-      let fits_before = fits_same told may_leave faults s B p w gs y v a k before same fits in
+      let is_before = is_same means w a k before same is in
+      let fits_before = fits_same means s B p w gs y v a k before same fits in
       let went = goes s B p w a stood is_before fits_before in
       let on = course_log p went.to went.steps went.course in
-      each_told (told v.store) _ (λ e. leaves_more moment left_since v.store u.store (LeavesInStep s p gs z) (LeavesUpTo s p gs z)
+      each_told (means.told v.store) _ (λ e. leaves_more means.moment means.left_since v.store u.store (LeavesInStep s p gs z) (LeavesUpTo s p gs z)
       (λ c D. up_to s p went.to gs z z c on (went.stood.stands.at.vault.run.run.log ∙ ap (log_after s.log) went.stood.stands.at.system) (λ l more. more) D)
-      (there (told v.store) _ e (leaves precheck s B p w a stood is_before fits_before)))
+      (there (means.told v.store) _ e (leaves precheck s B p w a stood is_before fits_before)))

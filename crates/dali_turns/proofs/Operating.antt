@@ -4,7 +4,7 @@ use Rattle.std.specs.Prelude.{◌==◌, ◌≢◌, filter}
 use Rattle.std.proofs.lemmas.Bool.{ltb-true, lt-ltb}
 use Rattle.std.proofs.lemmas.List.{append-nil, append_assoc, append_cancel_left, length-append}
 use Rattle.std.proofs.lemmas.List.Elements.{filter-append}
-use Rattle.dali_counts.proofs.Lists.{equal, self, same_number, some_same}
+use Rattle.dali_runs.proofs.CountsLemmas.Lists.{equal, self, same_number, some_same}
 use Rattle.dali_geometry.specs.Sizes.{Sizes}
 use Rattle.dali_geometry.specs.Places.{is_place, region_at, cell_at}
 use Rattle.dali_record.specs.declared.operations.Block.{Block}
@@ -21,16 +21,17 @@ use Rattle.dali_calls.specs.declared.stage.Stage.{Stage}
 use Rattle.dali_calls.specs.declared.stage.Stage.TheVariants.{Fresh, Walking, Nowhere, Somewhere, Storing, Adding, Removing, Finished}
 use Rattle.dali_att.specs.Table.{without_last}
 use Rattle.dali_store.specs.Store.{Files as Disk}
-use Rattle.dali_system.specs.State.{SystemState, VaultState, CoreState, state_of, lock_of}
+use Rattle.dali_store.specs.declared.store.Store.{Ghosts}
+use Rattle.dali_runs.specs.State.{SystemState, VaultState, CoreState, state_of, lock_of}
 use Rattle.dali_crash.specs.Checkpoints.{Point}
 use Rattle.dali_crash.specs.Traces.{Start}
-use Rattle.dali_vault.specs.Vaulted.{Vaulted}
+use Rattle.dali_core.specs.Vault.Vaulted.{Vaulted}
 use Rattle.dali_calls.specs.declared.plan.Phase.{Phase}
 use Rattle.dali_calls.specs.declared.plan.Phase.TheVariants.{Calling as IsCalling, Refused as IsRefused}
 use Rattle.dali_calls.specs.Plans.{Planned, IsWhole, goes_back, is_back, is_back_in, plan_next, onward_next, undo_next}
-use Rattle.dali_single.specs.Stands.{core, IsAtRest, AtPlan}
-use Rattle.dali_stepwise.specs.Opened.{IsLogged, record_on}
-use Rattle.dali_stepwise.specs.Stepwise.{OneFurther, LeadsOnce}
+use Rattle.dali_calls.specs.Single.Stands.{core, IsAtRest, AtPlan}
+use Rattle.dali_calls.specs.Stepwise.Opened.{IsLogged, record_on}
+use Rattle.dali_calls.specs.Stepwise.Stepwise.{OneFurther, LeadsOnce}
 use Rattle.dali_calls.specs.Steps.{call_key, next_op, answer_of, put_of, in_cell, IsAt, IsBlockOf}
 use Rattle.dali_transcripts.specs.Words.{Calls, key_of}
 use Rattle.dali_transcripts.specs.World.{Logs, Meets, World, log_of, is_claimed_in}
@@ -39,12 +40,12 @@ use Rattle.dali_transcripts.specs.Causes.{IsOpOf, IsAside, IsWork, AreWork, spar
 use Rattle.dali_transcripts.specs.Rounds.{Standing, IsPlaced}
 use Rattle.dali_transcripts.proofs.Grants.{granted_more}
 use Rattle.dali_transcripts.proofs.Growing.{works, asides, all_tried, met, survives}
-use Rattle.dali_deeds.specs.Tells.{after}
-use Rattle.dali_deeds.proofs.States.{kept_state, undone_state}
-use Rattle.dali_rounds.specs.Went.{Went as RoundsWent}
-use Rattle.dali_rounds.proofs.Calls.{operate_goes}
-use Rattle.dali_clients.specs.declared.line.Why.{Why}
-use Rattle.dali_clients.specs.Told.{act_of, reason_of}
+use Rattle.dali_transcripts.specs.Telling.Tells.{after}
+use Rattle.dali_transcripts.proofs.TellingLemmas.States.{kept_state, undone_state}
+use Rattle.dali_transactions.specs.Beside.Went.{Went as RoundsWent}
+use Rattle.dali_transactions.proofs.BesideLemmas.Calls.{operate_goes}
+use Rattle.dali_transcripts.specs.declared.clients.line.Why.{Why}
+use Rattle.dali_transcripts.specs.Clients.Told.{act_of, reason_of}
 use Rattle.std.specs.FinMap.{get}
 use Rattle.dali_lists.proofs.Members.{all_append}
 use Rattle.dali_turns.specs.declared.client.Client.{Client}
@@ -62,7 +63,7 @@ use Rattle.dali_turns.proofs.Undoing.{undone_then, undone_once}
 use Rattle.dali_turns.proofs.Doing.{Did, vault_stops, behind, went_on}
 use Rattle.dali_turns.proofs.Walking.{Led, led, did_led}
 use Rattle.dali_turns.proofs.Asked.{same_key}
-use Rattle.dali_rounds.specs.Went.{is_open}
+use Rattle.dali_transactions.specs.Beside.Went.{is_open}
 
 -- ---- the operations of a call
 
@@ -164,9 +165,9 @@ onward_op plan r op on phase next =
     ap (λ f. onward_next f (next_op plan.geometry plan.txn plan.call plan.stage)) (sym phase)
     ∙ (sym (ap (λ (b : Bool). if b then undo_next (last_of plan.changes) else onward_next plan.phase (next_op plan.geometry plan.txn plan.call plan.stage)) on) ∙ next)
 
-module _ {V : Type 0} (told : V → Option Disk) (may_leave : V → Disk → Type 0) (faults : V → ℕ)
+module _ {V : Type 0} (means : Ghosts V)
     (precheck : Bool) (s : Start) (B : List (List Record)) (p : Point) (w : World) (a : Standing) (gs hs : List RegionState) (y z : SystemState) (v : Vaulted V)
-    (state : State) (t : ℕ) (owns : (n : ℕ) → t ≡ n → Owns state n) (call : Call) (phase : Phase) (plan q : Planned) (stood : Stood told may_leave faults s B p w precheck gs y v) (plan_is : IsAtCall p plan t call phase)
+    (state : State) (t : ℕ) (owns : (n : ℕ) → t ≡ n → Owns state n) (call : Call) (phase : Phase) (plan q : Planned) (stood : Stood means s B p w precheck gs y v) (plan_is : IsAtCall p plan t call phase)
     (further : OneFurther precheck plan gs y q hs z) where
   abbrev pub u : VaultState
   u = p.core.vault
@@ -180,8 +181,8 @@ module _ {V : Type 0} (told : V → Option Disk) (may_leave : V → Disk → Typ
   pub once : LeadsOnce precheck p.log p.core plan further.block (core hs z u) q
   once = subst (λ (k : CoreState). LeadsOnce precheck p.log k plan further.block (core hs z u) q) core_here (further.leads p.log u (subst (λ (k : CoreState). AtPlan p.log k plan) (sym core_here) plan_is.stands))
 
-  pub walked : Led told may_leave faults plan.txn s B p w a.client gs y v (p.log ++ R ∷ []) (core hs z u)
-  walked = led told may_leave faults precheck plan.txn a.client s B v once.steps p w gs y (p.log ++ R ∷ []) (core hs z u) stood.stands.at stood.precheck_is (record { run = stood.stands.at.vault.run; tells = stood.tells; whole = stood.stands.whole }) (vault_stops told may_leave faults precheck s B p w gs y v stood) once.leads
+  pub walked : Led means plan.txn s B p w a.client gs y v (p.log ++ R ∷ []) (core hs z u)
+  walked = led means precheck plan.txn a.client s B v once.steps p w gs y (p.log ++ R ∷ []) (core hs z u) stood.stands.at stood.precheck_is (record { run = stood.stands.at.vault.run; tells = stood.tells; whole = stood.stands.whole }) (vault_stops means precheck s B p w gs y v stood) once.leads
 
   own_is : map Logs walked.own ≡ Logs R ∷ []
   own_is = ap (map Logs) (sym (append_cancel_left p.log (R ∷ []) walked.own walked.log))
@@ -189,11 +190,11 @@ module _ {V : Type 0} (told : V → Option Disk) (may_leave : V → Disk → Typ
   pub same : SameStates y z
   same = logged_states (is_back plan) plan further.block y z q further.logged
 
-  rounds : (r : RoundsWent told may_leave faults plan.txn (R ∷ []) s B p gs hs z v) × AtPlan r.to.log r.to.core q
-  rounds = operate_goes told may_leave faults precheck s B p gs hs y z v plan q stood.stands plan_is.stands further
+  rounds : (r : RoundsWent means plan.txn (R ∷ []) s B p gs hs z v) × AtPlan r.to.log r.to.core q
+  rounds = operate_goes means precheck s B p gs hs y z v plan q stood.stands plan_is.stands further
 
-  pub did_operate : Did told may_leave faults precheck s B p w a.client state gs y v (Logs R ∷ []) B walked.to hs z v
-  did_operate = did_led told may_leave faults precheck plan.txn state (λ n e. owns n (sym plan_is.txn ∙ e)) s B p w a.client gs y v stood (Logs R ∷ []) (p.log ++ R ∷ []) (core hs z u) walked own_is
+  pub did_operate : Did means precheck s B p w a.client state gs y v (Logs R ∷ []) B walked.to hs z v
+  did_operate = did_led means precheck plan.txn state (λ n e. owns n (sym plan_is.txn ∙ e)) s B p w a.client gs y v stood (Logs R ∷ []) (p.log ++ R ∷ []) (core hs z u) walked own_is
       rounds.0.stands.dead (rounds.0.places stood.files) (still_quiet y z same stood.quiet) (λ e. ap is_some same.stop ∙ e)
 
   -- its locks
@@ -223,19 +224,19 @@ module _ {V : Type 0} (told : V → Option Disk) (may_leave : V → Disk → Typ
       by_test false g = inr (ap is_open (sym (same.states n)) ∙ lives, λ one. let yes : (t == n) ≡ true = same_number t n (only n one) in let no : true ≡ false = sym yes ∙ g in absurd (cc))
 
 -- ---- onward, or back before its answer
-module _ {V : Type 0} (told : V → Option Disk) (may_leave : V → Disk → Type 0) (faults : V → ℕ)
+module _ {V : Type 0} (means : Ghosts V)
     (precheck : Bool) (s : Start) (B : List (List Record)) (p : Point) (w : World) (a : Standing) (gs hs : List RegionState) (y z : SystemState) (v : Vaulted V) (k j : Client)
-    (x x' : Transaction) (plan q : Planned) (stood : Stood told may_leave faults s B p w precheck gs y v) (is : IsOf w a k) (fits : FitsCalling p w a (rest_of k) x plan)
+    (x x' : Transaction) (plan q : Planned) (stood : Stood means s B p w precheck gs y v) (is : IsOf w a k) (fits : FitsCalling p w a (rest_of k) x plan)
     (whole : IsWhole plan) (further : OneFurther precheck plan gs y q hs z) where
   abbrev rec : Record
   rec = record_on (is_back plan) plan.txn further.block
 
-  way : Led told may_leave faults plan.txn s B p w a.client gs y v (p.log ++ rec ∷ []) (core hs z p.core.vault)
-  way = walked told may_leave faults precheck s B p w a gs hs y z v (Calling x plan) x.txn (λ n e. e) fits.call IsCalling plan q stood fits.plan_is further
+  way : Led means plan.txn s B p w a.client gs y v (p.log ++ rec ∷ []) (core hs z p.core.vault)
+  way = walked means precheck s B p w a gs hs y z v (Calling x plan) x.txn (λ n e. e) fits.call IsCalling plan q stood fits.plan_is further
 
-  did : Did told may_leave faults precheck s B p w a.client (Calling x plan) gs y v (Logs rec ∷ []) B way.to hs z v
+  did : Did means precheck s B p w a.client (Calling x plan) gs y v (Logs rec ∷ []) B way.to hs z v
   unfolding way walked
-  did = did_operate told may_leave faults precheck s B p w a gs hs y z v (Calling x plan) x.txn (λ n e. e) fits.call IsCalling plan q stood fits.plan_is further
+  did = did_operate means precheck s B p w a gs hs y z v (Calling x plan) x.txn (λ n e. e) fits.call IsCalling plan q stood fits.plan_is further
 
   abbrev here : World
   here = after w a.client (Logs rec ∷ []) way.to.core
@@ -288,11 +289,11 @@ module _ {V : Type 0} (told : V → Option Disk) (may_leave : V → Disk → Typ
       ∙ spared_one fits.deadly (operations x.txn a.pending) fits.spared (λ e. lives refl (fits.nearer ∙ e))
 
   pub operate_on : IsFurther x (is_back plan) x' → (is_back plan ≡ false → x.deadly ≡ Some 1 → ⊥) → j.transcript ≡ k.transcript → j.rest.now ≡ k.rest.now → j.state ≡ Calling x' q
-      → Went told may_leave faults precheck s B p w a (Calling x plan) gs y v true j hs z v
+      → Went means precheck s B p w a (Calling x plan) gs y v true j hs z v
   unfolding way walked
   operate_on f lives transcript rest state =
-      went_on told may_leave faults precheck s B B p way.to w a (Calling x plan) gs hs y z v v (Logs rec ∷ []) k j is did true transcript
-      (subst (λ (n : State). Fits told may_leave faults s B way.to here hs z v (behind a w (Logs rec ∷ [])) (rest_of j) n) (sym state) fitting)
+      went_on means precheck s B B p way.to w a (Calling x plan) gs hs y z v v (Logs rec ∷ []) k j is did true transcript
+      (subst (λ (n : State). Fits means s B way.to here hs z v (behind a w (Logs rec ∷ [])) (rest_of j) n) (sym state) fitting)
       (λ e. rows)
     where
       same_rest : rest_of j ≡ rest_of k
@@ -322,18 +323,18 @@ module _ {V : Type 0} (told : V → Option Disk) (may_leave : V → Disk → Typ
           placed = subst (λ cs. IsPlaced false (map act_of cs)) (sym f.commands) fits.again.placed;
           few = omega (arith, f.tries, fits.again.few);
         };
-        locks = subst (λ t. AreGot way.to here a.client t) (sym f.txn) (locks_behind told may_leave faults precheck s B p w a gs hs y z v (Calling x plan) x.txn (λ n e. e) fits.call IsCalling plan q stood fits.plan_is further a.client x.txn fits.locks);
-        plan_is = subst (λ t. IsAtCall way.to q t fits.call IsCalling) (sym f.txn) (plan_behind told may_leave faults precheck s B p w a gs hs y z v (Calling x plan) x.txn (λ n e. e) fits.call IsCalling plan q stood fits.plan_is further);
+        locks = subst (λ t. AreGot way.to here a.client t) (sym f.txn) (locks_behind means precheck s B p w a gs hs y z v (Calling x plan) x.txn (λ n e. e) fits.call IsCalling plan q stood fits.plan_is further a.client x.txn fits.locks);
+        plan_is = subst (λ t. IsAtCall way.to q t fits.call IsCalling) (sym f.txn) (plan_behind means precheck s B p w a gs hs y z v (Calling x plan) x.txn (λ n e. e) fits.call IsCalling plan q stood fits.plan_is further);
       }
 
       rows : RowsTell (Calling x plan) y j.state z
-      rows = rows_behind told may_leave faults precheck s B p w a gs hs y z v (Calling x plan) x.txn (λ n e. e) fits.call IsCalling plan q stood fits.plan_is further j.state
+      rows = rows_behind means precheck s B p w a gs hs y z v (Calling x plan) x.txn (λ n e. e) fits.call IsCalling plan q stood fits.plan_is further j.state
           (λ n e. subst (λ (m : State). Owns m n) (sym state) (f.txn ∙ e)) (λ n e. e)
 
 -- ---- a change of a refused call is taken back
-module _ {V : Type 0} (told : V → Option Disk) (may_leave : V → Disk → Type 0) (faults : V → ℕ)
+module _ {V : Type 0} (means : Ghosts V)
     (precheck : Bool) (s : Start) (B : List (List Record)) (p : Point) (w : World) (a : Standing) (gs hs : List RegionState) (y z : SystemState) (v : Vaulted V) (k j : Client)
-    (x : Transaction) (plan q : Planned) (why : Why) (stood : Stood told may_leave faults s B p w precheck gs y v) (is : IsOf w a k) (fits : FitsTakingBack p w a (rest_of k) x plan why)
+    (x : Transaction) (plan q : Planned) (why : Why) (stood : Stood means s B p w precheck gs y v) (is : IsOf w a k) (fits : FitsTakingBack p w a (rest_of k) x plan why)
     (further : OneFurther precheck plan gs y q hs z) where
   back_now : is_back plan ≡ true
   back_now = ap (λ f. is_back_in f (answer_of plan.geometry plan.call plan.stage) plan.changes) fits.plan_is.phase_is
@@ -341,12 +342,12 @@ module _ {V : Type 0} (told : V → Option Disk) (may_leave : V → Disk → Typ
   abbrev back_rec : Record
   back_rec = record_on (is_back plan) plan.txn further.block
 
-  back_way : Led told may_leave faults plan.txn s B p w a.client gs y v (p.log ++ back_rec ∷ []) (core hs z p.core.vault)
-  back_way = walked told may_leave faults precheck s B p w a gs hs y z v (TakingBack x plan why) x.txn (λ n e. e) fits.call IsRefused plan q stood fits.plan_is further
+  back_way : Led means plan.txn s B p w a.client gs y v (p.log ++ back_rec ∷ []) (core hs z p.core.vault)
+  back_way = walked means precheck s B p w a gs hs y z v (TakingBack x plan why) x.txn (λ n e. e) fits.call IsRefused plan q stood fits.plan_is further
 
-  did_back : Did told may_leave faults precheck s B p w a.client (TakingBack x plan why) gs y v (Logs back_rec ∷ []) B back_way.to hs z v
+  did_back : Did means precheck s B p w a.client (TakingBack x plan why) gs y v (Logs back_rec ∷ []) B back_way.to hs z v
   unfolding back_way walked
-  did_back = did_operate told may_leave faults precheck s B p w a gs hs y z v (TakingBack x plan why) x.txn (λ n e. e) fits.call IsRefused plan q stood fits.plan_is further
+  did_back = did_operate means precheck s B p w a gs hs y z v (TakingBack x plan why) x.txn (λ n e. e) fits.call IsRefused plan q stood fits.plan_is further
 
   abbrev there : World
   there = after w a.client (Logs back_rec ∷ []) back_way.to.core
@@ -355,12 +356,12 @@ module _ {V : Type 0} (told : V → Option Disk) (may_leave : V → Disk → Typ
   is_aside true e = inl fits.plan_is.txn
   is_aside false e = absurd (cc)
 
-  pub back_on : j.transcript ≡ k.transcript → j.rest.now ≡ k.rest.now → j.state ≡ TakingBack x q why → Went told may_leave faults precheck s B p w a (TakingBack x plan why) gs y v true j hs z v
+  pub back_on : j.transcript ≡ k.transcript → j.rest.now ≡ k.rest.now → j.state ≡ TakingBack x q why → Went means precheck s B p w a (TakingBack x plan why) gs y v true j hs z v
   unfolding back_way walked
   back_on transcript rest state =
-      went_on told may_leave faults precheck s B B p back_way.to w a (TakingBack x plan why) gs hs y z v v (Logs back_rec ∷ []) k j is did_back true transcript
-      (subst (λ (n : State). Fits told may_leave faults s B back_way.to there hs z v (behind a w (Logs back_rec ∷ [])) (rest_of j) n) (sym state) fitting)
-      (λ e. rows_behind told may_leave faults precheck s B p w a gs hs y z v (TakingBack x plan why) x.txn (λ n e'. e') fits.call IsRefused plan q stood fits.plan_is further j.state (λ n e'. subst (λ (m : State). Owns m n) (sym state) e') (λ n e'. e'))
+      went_on means precheck s B B p back_way.to w a (TakingBack x plan why) gs hs y z v v (Logs back_rec ∷ []) k j is did_back true transcript
+      (subst (λ (n : State). Fits means s B back_way.to there hs z v (behind a w (Logs back_rec ∷ [])) (rest_of j) n) (sym state) fitting)
+      (λ e. rows_behind means precheck s B p w a gs hs y z v (TakingBack x plan why) x.txn (λ n e'. e') fits.call IsRefused plan q stood fits.plan_is further j.state (λ n e'. subst (λ (m : State). Owns m n) (sym state) e') (λ n e'. e'))
     where
       same_rest : rest_of j ≡ rest_of k
       same_rest = ap (map act_of) rest
@@ -390,6 +391,6 @@ module _ {V : Type 0} (told : V → Option Disk) (may_leave : V → Disk → Typ
         spared = fits.spared;
         placed = subst (IsPlaced true) (sym same_rest) fits.placed;
         again = fits.again;
-        locks = locks_behind told may_leave faults precheck s B p w a gs hs y z v (TakingBack x plan why) x.txn (λ n e. e) fits.call IsRefused plan q stood fits.plan_is further a.client x.txn fits.locks;
-        plan_is = plan_behind told may_leave faults precheck s B p w a gs hs y z v (TakingBack x plan why) x.txn (λ n e. e) fits.call IsRefused plan q stood fits.plan_is further;
+        locks = locks_behind means precheck s B p w a gs hs y z v (TakingBack x plan why) x.txn (λ n e. e) fits.call IsRefused plan q stood fits.plan_is further a.client x.txn fits.locks;
+        plan_is = plan_behind means precheck s B p w a gs hs y z v (TakingBack x plan why) x.txn (λ n e. e) fits.call IsRefused plan q stood fits.plan_is further;
       }

@@ -1,8 +1,8 @@
 -- A client that is done goes no further.
 use Rattle.std.proofs.Common.{◌≡◌, Bool, true, false, List, [], ◌∷◌, length, Some, None, refl, ap, sym, ◌∙◌, arith}
 use Rattle.std.specs.Prelude.{◌==◌, slice_get}
-use Rattle.dali_counts.proofs.Lists.{equal}
-use Rattle.dali_clients.specs.declared.command.Command.{Command}
+use Rattle.dali_runs.proofs.CountsLemmas.Lists.{equal}
+use Rattle.dali_transcripts.specs.declared.clients.command.Command.{Command}
 use Rattle.dali_turns.specs.declared.client.Client.{Client}
 use Rattle.dali_turns.specs.declared.client.State.{State}
 use Rattle.dali_turns.specs.Clients.{next_of, is_over}

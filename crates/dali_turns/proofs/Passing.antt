@@ -4,8 +4,8 @@ use Rattle.std.specs.Prelude.{slice_get, slice_set}
 use Rattle.std.proofs.lemmas.List.{length-set}
 use Rattle.std.proofs.lemmas.Bool.{cases_lt}
 use Rattle.std.proofs.lemmas.Option.{slice_get_within}
-use Rattle.dali_counts.proofs.Lists.{set_cases}
-use Rattle.dali_single.proofs.Lists.{get_apart}
+use Rattle.dali_runs.proofs.CountsLemmas.Lists.{set_cases}
+use Rattle.dali_calls.proofs.SingleLemmas.Lists.{get_apart}
 use Rattle.dali_geometry.specs.Sizes.{Sizes}
 use Rattle.dali_geometry.specs.Places.{regions}
 use Rattle.dali_record.specs.declared.records.Record.{Record}
@@ -14,16 +14,16 @@ use Rattle.dali_region.specs.declared.Hold.{Hold}
 use Rattle.dali_region.specs.State.{RegionState, checked}
 use Rattle.dali_region.specs.Answers.{is_dirty}
 use Rattle.dali_store.specs.Store.{Files as Disk}
-use Rattle.dali_traces.specs.Disks.{image_file}
-use Rattle.dali_traces.specs.Places.{place_of}
-use Rattle.dali_system.specs.Audits.{IsAuditing}
+use Rattle.dali_crash.specs.Disks.Disks.{image_file}
+use Rattle.dali_crash.specs.Disks.Places.{place_of}
+use Rattle.dali_runs.specs.Audits.{IsAuditing}
 use Rattle.dali_crash.specs.Checkpoints.{Point}
 use Rattle.dali_clean.specs.Cleaned.{AreDead}
-use Rattle.dali_whole.specs.Cores.{HoldsPlaces}
+use Rattle.dali_core.specs.Cores.{HoldsPlaces}
 use Rattle.dali_audit.specs.Findings.{Audited, finding_of, is_passed, AllPassed}
 use Rattle.dali_audit.specs.Stepped.{AreFindings}
 use Rattle.dali_transcripts.specs.World.{World, log_of, IsLogged}
-use Rattle.dali_deeds.specs.Deeds.{BeganHere}
+use Rattle.dali_transcripts.specs.Telling.Deeds.{BeganHere}
 use Rattle.dali_audit.proofs.Three.{found_is_passed}
 use Rattle.dali_checkpoint.proofs.Results.{checked_dirty}
 use Rattle.dali_turns.specs.Others.{AuditStays}

@@ -4,22 +4,22 @@ use Rattle.std.specs.Prelude.{if◌then◌else◌}
 use Rattle.dali_bytes.specs.declared.error.OutOfMemory.{OutOfMemory as NoMemory}
 use Rattle.dali_region.specs.State.{RegionState}
 use Rattle.dali_store.specs.Store.{Files as Disk}
-use Rattle.dali_system.specs.State.{SystemState}
-use Rattle.dali_vault.specs.Vaulted.{Vaulted}
-use Rattle.dali_core.specs.declared.error.SystemError.{SystemError}
-use Rattle.dali_core.specs.declared.error.SystemError.TheVariants.{Stopped, LogFull, OutOfMemory}
+use Rattle.dali_runs.specs.State.{SystemState}
+use Rattle.dali_core.specs.Vault.Vaulted.{Vaulted}
+use Rattle.dali_system.specs.declared.error.SystemError.{SystemError}
+use Rattle.dali_system.specs.declared.error.SystemError.TheVariants.{Stopped, LogFull, OutOfMemory}
 use Rattle.dali_calls.specs.Flags.{FlagsStay}
 use Rattle.dali_calls.specs.Plans.{Planned, refused}
-use Rattle.dali_whole.specs.Cores.{HoldsPlaces, NoShorter, IsNoShorter}
-use Rattle.dali_whole.proofs.Lengths.{then_length}
-use Rattle.dali_clients.specs.declared.command.Command.{Command}
-use Rattle.dali_clients.specs.declared.line.Why.{Why}
-use Rattle.dali_clients.specs.declared.line.Why.TheVariants.{Stopped as IsStopped, LogFull as IsFull}
+use Rattle.dali_core.specs.Cores.{HoldsPlaces, NoShorter, IsNoShorter}
+use Rattle.dali_core.proofs.Lengths.{then_length}
+use Rattle.dali_transcripts.specs.declared.clients.command.Command.{Command}
+use Rattle.dali_transcripts.specs.declared.clients.line.Why.{Why}
+use Rattle.dali_transcripts.specs.declared.clients.line.Why.TheVariants.{Stopped as IsStopped, LogFull as IsFull}
 use Rattle.dali_turns.specs.declared.client.Client.{Client}
 use Rattle.dali_turns.specs.declared.client.State.{State}
 use Rattle.dali_turns.specs.declared.client.State.TheVariants.{Outside, LeftOut, Within, TakingBack, Committing, Copying}
 use Rattle.dali_turns.specs.declared.client.Transaction.{Transaction}
-use Rattle.dali_clients.specs.Told.{act_of}
+use Rattle.dali_transcripts.specs.Clients.Told.{act_of}
 use Rattle.dali_transcripts.specs.Words.{closes}
 use Rattle.dali_calls.proofs.Flags.{flags_equal}
 use Rattle.dali_turns.specs.Clients.{next_of, RefusesCall, Stays, Passes, left_behind}

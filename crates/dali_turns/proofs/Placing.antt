@@ -6,10 +6,10 @@ use Rattle.dali_region.specs.declared.Side.{Side}
 use Rattle.dali_region.specs.State.{RegionState, checked}
 use Rattle.dali_region.specs.Answers.{is_dirty, cleaned}
 use Rattle.dali_store.specs.Store.{Files as Disk}
-use Rattle.dali_vault.specs.declared.error.VaultError.{VaultError}
-use Rattle.dali_vault.specs.declared.error.VaultError.TheVariants.{Fault as VaultFault, Stopped as VaultStopped}
-use Rattle.dali_vault.specs.Vaulted.{Vaulted}
-use Rattle.dali_whole.specs.Cores.{HoldsPlaces, IsNoShorter}
+use Rattle.dali_core.specs.declared.vault.error.VaultError.{VaultError}
+use Rattle.dali_core.specs.declared.vault.error.VaultError.TheVariants.{Fault as VaultFault, Stopped as VaultStopped}
+use Rattle.dali_core.specs.Vault.Vaulted.{Vaulted}
+use Rattle.dali_core.specs.Cores.{HoldsPlaces, IsNoShorter}
 use Rattle.dali_checkpoint.specs.Kept.{Checkpointed, side_in}
 use Rattle.dali_checkpoint.specs.Done.{Reaches}
 use Rattle.dali_checkpoint.proofs.Lengths.{same_length, places_stay, copied_places}

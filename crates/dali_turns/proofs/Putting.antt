@@ -5,9 +5,9 @@ use Rattle.std.specs.List.{range_with_len}
 use Rattle.std.proofs.lemmas.List.{append-nil}
 use Rattle.dali_bytes.specs.declared.error.OutOfMemory.{OutOfMemory}
 use Rattle.dali_record.specs.declared.records.Call.{Call}
-use Rattle.dali_system.specs.State.{SystemState}
-use Rattle.dali_clients.specs.declared.command.Command.{Command}
-use Rattle.dali_clients.specs.Said.{Transcribed, logged}
+use Rattle.dali_runs.specs.State.{SystemState}
+use Rattle.dali_transcripts.specs.declared.clients.command.Command.{Command}
+use Rattle.dali_transcripts.specs.Clients.Said.{Transcribed, logged}
 use Rattle.dali_turns.specs.declared.client.Client.{Client}
 use Rattle.dali_turns.specs.declared.client.State.{State}
 use Rattle.dali_turns.specs.declared.client.State.TheVariants.{Outside, LeftOut, Within, Gone}

@@ -9,21 +9,21 @@ use Rattle.dali_region.specs.declared.LatchError.{LatchError}
 use Rattle.dali_region.specs.declared.LatchError.TheVariants.{Latched, DeadHolder, Damaged}
 use Rattle.dali_region.specs.Answers.{latch_answer}
 use Rattle.dali_region.specs.State.{RegionState}
-use Rattle.dali_system.specs.declared.causes.Cause.{Cause}
-use Rattle.dali_system.specs.State.{SystemState}
-use Rattle.dali_core.specs.Refused.{stop_of, room_of}
-use Rattle.dali_core.specs.declared.error.SystemError.{SystemError}
-use Rattle.dali_core.specs.declared.error.SystemError.TheVariants.{Stopped, LogFull, OutOfMemory}
-use Rattle.dali_core.specs.declared.want.Want.{Want}
-use Rattle.dali_core.specs.declared.want.Want.TheVariants.{Region}
+use Rattle.dali_runs.specs.declared.causes.Cause.{Cause}
+use Rattle.dali_runs.specs.State.{SystemState}
+use Rattle.dali_system.specs.Refused.{stop_of, room_of}
+use Rattle.dali_system.specs.declared.error.SystemError.{SystemError}
+use Rattle.dali_system.specs.declared.error.SystemError.TheVariants.{Stopped, LogFull, OutOfMemory}
+use Rattle.dali_system.specs.declared.want.Want.{Want}
+use Rattle.dali_system.specs.declared.want.Want.TheVariants.{Region}
 use Rattle.dali_clean.specs.declared.error.CleanError.{CleanError}
 use Rattle.dali_clean.specs.declared.error.CleanError.TheVariants.{Stopped as CleanStopped, OutOfMemory as CleanMemory}
 use Rattle.dali_calls.specs.Plans.{Planned, want_of}
-use Rattle.dali_single.specs.declared.error.StepError.{StepError}
-use Rattle.dali_single.specs.Refusals.{IsAnswerTo, IsRefusedOn, IsRefusedIn, IsRefusal}
-use Rattle.dali_clients.specs.declared.command.Command.{Command}
-use Rattle.dali_clients.specs.declared.command.Command.TheVariants.{Call as IsCall}
-use Rattle.dali_clients.specs.Told.{act_of}
+use Rattle.dali_calls.specs.declared.single.error.StepError.{StepError}
+use Rattle.dali_calls.specs.Single.Refusals.{IsAnswerTo, IsRefusedOn, IsRefusedIn, IsRefusal}
+use Rattle.dali_transcripts.specs.declared.clients.command.Command.{Command}
+use Rattle.dali_transcripts.specs.declared.clients.command.Command.TheVariants.{Call as IsCall}
+use Rattle.dali_transcripts.specs.Clients.Told.{act_of}
 use Rattle.dali_transcripts.specs.Words.{Act, Calls}
 
 -- ---- the system

@@ -7,16 +7,16 @@ use Rattle.dali_record.specs.declared.records.Record.{Record}
 use Rattle.dali_record.specs.declared.records.Record.TheVariants.{AuditBegin}
 use Rattle.dali_record.specs.Epochs.{last_epoch}
 use Rattle.dali_record.specs.Spelling.{record_length}
-use Rattle.dali_system.specs.declared.causes.Cause.{Cause}
-use Rattle.dali_system.specs.Run.{Bases, RunsOn, failed_first, no_image}
-use Rattle.dali_system.specs.State.{CoreState, SystemState}
-use Rattle.dali_facts.proofs.KeysAndUndos.{has_counts}
+use Rattle.dali_runs.specs.declared.causes.Cause.{Cause}
+use Rattle.dali_runs.specs.Run.{Bases, RunsOn, failed_first, no_image}
+use Rattle.dali_runs.specs.State.{CoreState, SystemState}
+use Rattle.dali_runs.proofs.FactsLemmas.KeysAndUndos.{has_counts}
 use Rattle.dali_crash.specs.Checkpoints.{Point}
 use Rattle.dali_crash.specs.StoreRuns.{StoreRun}
 use Rattle.dali_transcripts.specs.Words.{Act, Audits as AuditAct, Checkpoints as CheckpointAct, Why, StoppedBy, Full, Damaged, StoreFailed, UnderWay, is_stop}
 use Rattle.dali_transcripts.specs.World.{Deed, Meets, Happening, World, logged_by, log_of, log_at, HasDone, has_failed, cause_of, stop_at}
 use Rattle.dali_transcripts.specs.Causes.{CanStop, IsCause, IsRoomFor, MetCause, IsAlone, limit_of}
-use Rattle.dali_deeds.specs.Tells.{after, AreRightThen, Tells}
+use Rattle.dali_transcripts.specs.Telling.Tells.{after, AreRightThen, Tells}
 use Rattle.dali_turns.proofs.Deeds.{stop_is_told}
 use Rattle.dali_turns.specs.Outside.{MaySay}
 

@@ -3,20 +3,21 @@ use Rattle.std.proofs.Common.{◌≡◌, ℕ, Bool, true, false, List, [], ◌�
 use Rattle.std.specs.Prelude.{◌==◌, ◌⊎◌}
 use Rattle.std.proofs.lemmas.List.{map-append}
 use Rattle.dali_lists.proofs.Members.{all_append, all_map}
-use Rattle.dali_counts.proofs.Lists.{equal, same_number}
+use Rattle.dali_runs.proofs.CountsLemmas.Lists.{equal, same_number}
 use Rattle.dali_record.specs.declared.records.Call.{Call}
 use Rattle.dali_record.specs.declared.records.Record.TheVariants.{Forward}
 use Rattle.dali_record.specs.declared.records.Record.{Record}
 use Rattle.dali_region.specs.State.{RegionState}
 use Rattle.dali_att.specs.declared.state.State.TheVariants.{Live}
 use Rattle.dali_store.specs.Store.{Files as Disk}
-use Rattle.dali_system.specs.State.{SystemState, state_of}
-use Rattle.dali_system.specs.Keeps.{IsFree}
+use Rattle.dali_store.specs.declared.store.Store.{Ghosts}
+use Rattle.dali_runs.specs.State.{SystemState, state_of}
+use Rattle.dali_runs.specs.Keeps.{IsFree}
 use Rattle.dali_crash.specs.Checkpoints.{Point}
 use Rattle.dali_crash.specs.Traces.{Start}
-use Rattle.dali_vault.specs.Vaulted.{Vaulted}
+use Rattle.dali_core.specs.Vault.Vaulted.{Vaulted}
 use Rattle.dali_calls.specs.Plans.{Planned, refused, is_answered}
-use Rattle.dali_stepwise.proofs.Turning.{plan_turns}
+use Rattle.dali_calls.proofs.StepwiseLemmas.Turning.{plan_turns}
 use Rattle.dali_transcripts.specs.Words.{Act, Calls, Why as Reason, is_stop}
 use Rattle.dali_transcripts.specs.World.{Logs, GetsLock, FindsDead, Meets, World, log_of}
 use Rattle.dali_transcripts.specs.Moves.{Receipt, Within as IsWithin, at, Move, IsRefusedCall, operations}
@@ -24,12 +25,12 @@ use Rattle.dali_transcripts.specs.Causes.{IsAside, IsWork, IsTried, AreAside, Ar
 use Rattle.dali_transcripts.specs.Rounds.{Standing, IsPlaced}
 use Rattle.dali_transcripts.proofs.Grants.{granted_asks}
 use Rattle.dali_transcripts.proofs.Growing.{works}
-use Rattle.dali_deeds.specs.Tells.{after}
-use Rattle.dali_deeds.specs.Laws.{IsNoFault}
-use Rattle.dali_clients.specs.declared.command.Command.TheVariants.{Call as IsCall}
-use Rattle.dali_clients.specs.declared.line.Line.TheVariants.{Refused as RefusedLine}
-use Rattle.dali_clients.specs.declared.line.Why.{Why}
-use Rattle.dali_clients.specs.Told.{act_of, reason_of, said_of}
+use Rattle.dali_transcripts.specs.Telling.Tells.{after}
+use Rattle.dali_transcripts.specs.Telling.Laws.{IsNoFault}
+use Rattle.dali_transcripts.specs.declared.clients.command.Command.TheVariants.{Call as IsCall}
+use Rattle.dali_transcripts.specs.declared.clients.line.Line.TheVariants.{Refused as RefusedLine}
+use Rattle.dali_transcripts.specs.declared.clients.line.Why.{Why}
+use Rattle.dali_transcripts.specs.Clients.Told.{act_of, reason_of, said_of}
 use Rattle.dali_turns.specs.declared.client.Client.{Client}
 use Rattle.dali_turns.specs.declared.client.State.{State}
 use Rattle.dali_turns.specs.declared.client.State.TheVariants.{Within, Calling, TakingBack}
@@ -44,7 +45,7 @@ use Rattle.dali_turns.proofs.Undoing.{undone_on}
 use Rattle.dali_turns.proofs.Refusals.{HasCauseNow, met_now, right_now}
 use Rattle.dali_turns.proofs.Doing.{Did, did_meet, behind, ended, went_on, went_by, went_silent}
 use Rattle.dali_turns.proofs.Calling.{behind_one, none_so_far, due_left}
-use Rattle.dali_rounds.specs.Went.{is_open}
+use Rattle.dali_transactions.specs.Beside.Went.{is_open}
 
 -- ---- the work of a call, once it is refused
 pub tried_of : (w : World) (c t : ℕ) (call : Call) (x : Receipt) → IsWork w c t call x → IsTried w c t call x
@@ -73,26 +74,26 @@ stays_back w c t n why [] back h aside = all_map (IsAside w c t) IsNoOperation (
 stays_back w c t n why ((m, Meets other) ∷ xs) back h aside = all_append IsNoOperation xs ((n, Meets why) ∷ back) h (tt, all_map (IsAside w c t) IsNoOperation (no_operations w c t) back aside)
 stays_back w c t n why (x ∷ xs) back h aside = stays_back w c t n why xs back h aside
 
-module _ {V : Type 0} (told : V → Option Disk) (may_leave : V → Disk → Type 0) (faults : V → ℕ)
+module _ {V : Type 0} (means : Ghosts V)
     (precheck : Bool) (s : Start) (B : List (List Record)) (p : Point) (w : World) (a : Standing) (gs : List RegionState) (y : SystemState) (v : Vaulted V) (k j : Client)
-    (x : Transaction) (plan : Planned) (stood : Stood told may_leave faults s B p w precheck gs y v) (is : IsOf w a k) (fits : FitsCalling p w a (rest_of k) x plan)
+    (x : Transaction) (plan : Planned) (stood : Stood means s B p w precheck gs y v) (is : IsOf w a k) (fits : FitsCalling p w a (rest_of k) x plan)
     (why : Why) (no_fault : IsNoFault (reason_of why)) where
   abbrev now : World
   now = after w a.client (Meets (reason_of why) ∷ []) p.core
 
   module _ (cause : HasCauseNow w a.client p.core (Calls fits.call) (Some x.txn) (reason_of why))
       (lives : Survives now a.client (length (log_of w)) x.txn fits.call fits.deadly (operations x.txn a.pending) (reason_of why) (met_now w a.client p.core (Calls fits.call) (Some x.txn) (reason_of why) cause)) where
-    did : Did told may_leave faults precheck s B p w a.client (Calling x plan) gs y v (Meets (reason_of why) ∷ []) B p gs y v
-    did = did_meet told may_leave faults precheck s B p w gs y v stood a.client (Calling x plan) (reason_of why) no_fault (right_now w a.client p.core (Calls fits.call) (Some x.txn) (reason_of why) cause)
+    did : Did means precheck s B p w a.client (Calling x plan) gs y v (Meets (reason_of why) ∷ []) B p gs y v
+    did = did_meet means precheck s B p w gs y v stood a.client (Calling x plan) (reason_of why) no_fault (right_now w a.client p.core (Calls fits.call) (Some x.txn) (reason_of why) cause)
 
     tried : AreTried now a.client x.txn fits.call a.pending
     tried = all_tried_of now a.client x.txn fits.call a.pending (works w now did.goes.grows a.client x.txn fits.call a.pending fits.work)
 
     -- ---- its changes are taken back from here on
-    pub turned_back : is_stop (reason_of why) ≡ false → Stays k (TakingBack x (refused plan) why) j → Went told may_leave faults precheck s B p w a (Calling x plan) gs y v true j gs y v
+    pub turned_back : is_stop (reason_of why) ≡ false → Stays k (TakingBack x (refused plan) why) j → Went means precheck s B p w a (Calling x plan) gs y v true j gs y v
     turned_back no_stop f =
-        went_on told may_leave faults precheck s B B p p w a (Calling x plan) gs gs y y v v (Meets (reason_of why) ∷ []) k j is did true f.transcript
-        (subst (λ (n : State). Fits told may_leave faults s B p now gs y v (behind a w (Meets (reason_of why) ∷ [])) (rest_of j) n) (sym f.stands) fitting)
+        went_on means precheck s B B p p w a (Calling x plan) gs gs y y v v (Meets (reason_of why) ∷ []) k j is did true f.transcript
+        (subst (λ (n : State). Fits means s B p now gs y v (behind a w (Meets (reason_of why) ∷ [])) (rest_of j) n) (sym f.stands) fitting)
         (λ e. rows)
       where
         same_rest : rest_of j ≡ rest_of k
@@ -168,12 +169,12 @@ module _ {V : Type 0} (told : V → Option Disk) (may_leave : V → Disk → Typ
       rows_within : (new : State) → new ≡ Within x → RowsTell (Calling x plan) y new y
       rows_within new is_new e t lives = let none : is_some y.stop ≡ false = ap is_some e in let no : true ≡ false = sym stopped ∙ none in absurd (cc)
 
-      pub refused_said : Finishes k (Within x) (RefusedLine (IsCall fits.call) why) j → Went told may_leave faults precheck s B p w a (Calling x plan) gs y v true j gs y v
+      pub refused_said : Finishes k (Within x) (RefusedLine (IsCall fits.call) why) j → Went means precheck s B p w a (Calling x plan) gs y v true j gs y v
       refused_said f =
-          went_by told may_leave faults precheck s B B p p w a (Calling x plan) gs gs y y v v (Meets (reason_of why) ∷ []) k j is did move spot refl has_cause
+          went_by means precheck s B B p p w a (Calling x plan) gs gs y y v v (Meets (reason_of why) ∷ []) k j is did move spot refl has_cause
           (ap (λ t. t.client) f.transcript) (ap (λ t. map said_of t.lines) f.transcript ∙ map-append said_of k.transcript.lines (RefusedLine (IsCall fits.call) why ∷ []))
-          (subst (λ (n : State). Fits told may_leave faults s B p now gs y v (ended a move) (rest_of j) n) (sym f.stands) (fits_behind (rest_of j) (behind_one k.rest.now j.rest.now _ fits.more fits.calls f.rest)))
+          (subst (λ (n : State). Fits means s B p now gs y v (ended a move) (rest_of j) n) (sym f.stands) (fits_behind (rest_of j) (behind_one k.rest.now j.rest.now _ fits.more fits.calls f.rest)))
           (rows_within j.state f.stands)
 
-      pub refused_unsaid : Passes k (Within x) j → Went told may_leave faults precheck s B p w a (Calling x plan) gs y v false j gs y v
-      refused_unsaid f = went_silent told may_leave faults precheck s B B p p w a (Calling x plan) gs gs y y v v (Meets (reason_of why) ∷ []) k j is did move spot refl has_cause f.transcript
+      pub refused_unsaid : Passes k (Within x) j → Went means precheck s B p w a (Calling x plan) gs y v false j gs y v
+      refused_unsaid f = went_silent means precheck s B B p p w a (Calling x plan) gs gs y y v v (Meets (reason_of why) ∷ []) k j is did move spot refl has_cause f.transcript

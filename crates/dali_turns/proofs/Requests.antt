@@ -9,17 +9,18 @@ use Rattle.dali_locks.specs.Locks.{IsAnswer}
 use Rattle.dali_att.specs.declared.state.State.{State as RowState}
 use Rattle.dali_att.specs.declared.state.State.TheVariants.{Live, Committed, Dead, Cleaning}
 use Rattle.dali_store.specs.Store.{Files as Disk}
-use Rattle.dali_system.specs.State.{SystemState, VaultState, state_of}
-use Rattle.dali_vault.specs.Vaulted.{Vaulted}
+use Rattle.dali_store.specs.declared.store.Store.{Ghosts}
+use Rattle.dali_runs.specs.State.{SystemState, VaultState, state_of}
+use Rattle.dali_core.specs.Vault.Vaulted.{Vaulted}
 use Rattle.dali_clean.specs.Cleaned.{IsDead}
-use Rattle.dali_core.specs.Asked.{after_request}
+use Rattle.dali_system.specs.Asked.{after_request}
 use Rattle.dali_calls.specs.Steps.{call_key}
 use Rattle.dali_calls.specs.Plans.{Planned, mode_of}
-use Rattle.dali_single.specs.Single.{MayCall}
-use Rattle.dali_single.specs.Stands.{core, IsAtRest}
-use Rattle.dali_stepwise.specs.Stepwise.{IsNew, IsAsked}
+use Rattle.dali_calls.specs.Single.Single.{MayCall}
+use Rattle.dali_calls.specs.Single.Stands.{core, IsAtRest}
+use Rattle.dali_calls.specs.Stepwise.Stepwise.{IsNew, IsAsked}
 use Rattle.dali_transcripts.specs.World.{is_dead_in}
-use Rattle.dali_clients.specs.declared.command.Command.TheVariants.{Call as IsCall}
+use Rattle.dali_transcripts.specs.declared.clients.command.Command.TheVariants.{Call as IsCall}
 use Rattle.dali_turns.specs.declared.client.Client.{Client}
 use Rattle.dali_turns.specs.declared.client.State.TheVariants.{Within, Calling}
 use Rattle.dali_turns.specs.declared.client.Transaction.{Transaction}
@@ -38,7 +39,7 @@ dead_in (Some Live) e = absurd (cc)
 dead_in (Some Committed) e = absurd (cc)
 dead_in None e = absurd (cc)
 
-module _ {V : Type 0} (told : V → Option Disk) (may_leave : V → Disk → Type 0) (faults : V → ℕ) (gs : List RegionState) (y z : SystemState) (v : Vaulted V) (k : Client) (x : Transaction) (call : Call) (next : next_of k ≡ Some (IsCall call))
+module _ {V : Type 0} (means : Ghosts V) (gs : List RegionState) (y z : SystemState) (v : Vaulted V) (k : Client) (x : Transaction) (call : Call) (next : next_of k ≡ Some (IsCall call))
     (plan : Planned) (same : plan ≡ new_plan y.sizes x.txn call) (a : LockAnswer) (answer : IsAnswer y.locks x.txn (call_key plan.call) (mode_of plan.call) a) (system : z ≡ after_request y x.txn (call_key plan.call) (mode_of plan.call) a)
     (asks : (L : List Record) (rs : List RegionState) (o : VaultState) → IsNew plan → IsAtRest rs y plan → MayCall L (core rs y o) x.txn → IsAsked a L (core rs y o) plan (core rs z o)) (runs : y.stop ≡ None) where
   the_call : plan.call ≡ call
@@ -54,8 +55,8 @@ module _ {V : Type 0} (told : V → Option Disk) (may_leave : V → Disk → Typ
   asked b is = subst (λ (n : LockAnswer). (L : List Record) (rs : List RegionState) (o : VaultState) → IsNew plan → IsAtRest rs y plan → MayCall L (core rs y o) x.txn → IsAsked n L (core rs y o) plan (core rs z o)) is asks
 
   -- it is granted
-  pub granted_then : a ≡ Granted → (precheck : Bool) (j : Client) → Stays k (Calling x plan) j → StepGoes told may_leave faults precheck (Within x) k gs y v true j gs z v
-  granted_then is precheck j f = granted_goes told may_leave faults precheck gs y v k j x call next z plan same (asked Granted is) (stated Granted is) runs f
+  pub granted_then : a ≡ Granted → (precheck : Bool) (j : Client) → Stays k (Calling x plan) j → StepGoes means precheck (Within x) k gs y v true j gs z v
+  granted_then is precheck j f = granted_goes means precheck gs y v k j x call next z plan same (asked Granted is) (stated Granted is) runs f
 
   module _ (holder : ℕ) where
     -- it waits
@@ -65,11 +66,11 @@ module _ {V : Type 0} (told : V → Option Disk) (may_leave : V → Disk → Typ
     pub must_wait : a ≡ Wait holder → is_dead_in (state_of z holder) ≡ false → MustWait y x.txn call
     must_wait is alive = (holder, answered (Wait holder) is, ap (λ (m : SystemState). is_dead_in (state_of m holder)) (sym (waits_there is)) ∙ alive)
 
-    pub waits_then : a ≡ Wait holder → (precheck : Bool) (j : Client) → Stays k (Within x) j → StepGoes told may_leave faults precheck (Within x) k gs y v true j gs z v
-    waits_then is precheck j f = waits_goes told may_leave faults precheck gs y v k j x call next z (waits_there is) f
+    pub waits_then : a ≡ Wait holder → (precheck : Bool) (j : Client) → Stays k (Within x) j → StepGoes means precheck (Within x) k gs y v true j gs z v
+    waits_then is precheck j f = waits_goes means precheck gs y v k j x call next z (waits_there is) f
 
-    pub clean_then : a ≡ Wait holder → (precheck ok : Bool) (j : Client) (hs : List RegionState) (m : SystemState) (u : Vaulted V) → StepGoes told may_leave faults precheck (Within x) k gs z v ok j hs m u → StepGoes told may_leave faults precheck (Within x) k gs y v ok j hs m u
-    clean_then is precheck ok j hs m u goes = subst (λ (n : SystemState). StepGoes told may_leave faults precheck (Within x) k gs n v ok j hs m u) (waits_there is) goes
+    pub clean_then : a ≡ Wait holder → (precheck ok : Bool) (j : Client) (hs : List RegionState) (m : SystemState) (u : Vaulted V) → StepGoes means precheck (Within x) k gs z v ok j hs m u → StepGoes means precheck (Within x) k gs y v ok j hs m u
+    clean_then is precheck ok j hs m u goes = subst (λ (n : SystemState). StepGoes means precheck (Within x) k gs n v ok j hs m u) (waits_there is) goes
 
     -- an older one holds it
     as_before : a ≡ Busy holder → state_of y holder ≡ state_of z holder
@@ -81,12 +82,12 @@ module _ {V : Type 0} (told : V → Option Disk) (may_leave : V → Disk → Typ
     died : a ≡ Busy holder → is_dead_in (state_of z holder) ≡ true → is_dead_in (state_of y holder) ≡ true
     died is dead = ap is_dead_in (as_before is) ∙ dead
 
-    pub yield_then : a ≡ Busy holder → is_dead_in (state_of z holder) ≡ false → (precheck ok : Bool) (j : Client) (hs : List RegionState) (m : SystemState) (u : Vaulted V) → YieldGoes told may_leave faults precheck x holder k gs z v ok j hs m u
-        → StepGoes told may_leave faults precheck (Within x) k gs y v ok j hs m u
+    pub yield_then : a ≡ Busy holder → is_dead_in (state_of z holder) ≡ false → (precheck ok : Bool) (j : Client) (hs : List RegionState) (m : SystemState) (u : Vaulted V) → YieldGoes means precheck x holder k gs z v ok j hs m u
+        → StepGoes means precheck (Within x) k gs y v ok j hs m u
     yield_then is alive precheck ok j hs m u goes =
-        yield_goes told may_leave faults gs y v k x call next plan same holder (answered (Busy holder) is) runs z (stated (Busy holder) is) (asked (Busy holder) is) (lives is alive) precheck ok j hs m u goes
+        yield_goes means gs y v k x call next plan same holder (answered (Busy holder) is) runs z (stated (Busy holder) is) (asked (Busy holder) is) (lives is alive) precheck ok j hs m u goes
 
-    pub clean_behind : a ≡ Busy holder → is_dead_in (state_of z holder) ≡ true → (precheck ok : Bool) (j : Client) (hs : List RegionState) (m : SystemState) (u : Vaulted V) → StepGoes told may_leave faults precheck (Within x) k gs z v ok j hs m u
-        → StepGoes told may_leave faults precheck (Within x) k gs y v ok j hs m u
+    pub clean_behind : a ≡ Busy holder → is_dead_in (state_of z holder) ≡ true → (precheck ok : Bool) (j : Client) (hs : List RegionState) (m : SystemState) (u : Vaulted V) → StepGoes means precheck (Within x) k gs z v ok j hs m u
+        → StepGoes means precheck (Within x) k gs y v ok j hs m u
     clean_behind is dead precheck ok j hs m u goes =
-        clean_goes told may_leave faults gs y v k x call next plan same holder (answered (Busy holder) is) runs z (stated (Busy holder) is) (asked (Busy holder) is) (died is dead) precheck ok j hs m u goes
+        clean_goes means gs y v k x call next plan same holder (answered (Busy holder) is) runs z (stated (Busy holder) is) (asked (Busy holder) is) (died is dead) precheck ok j hs m u goes

@@ -6,16 +6,16 @@ use Rattle.dali_record.specs.declared.records.Call.{Call}
 use Rattle.dali_region.specs.State.{RegionState}
 use Rattle.dali_att.specs.declared.state.State.TheVariants.{Live}
 use Rattle.dali_store.specs.Store.{Files as Disk}
-use Rattle.dali_system.specs.declared.causes.Cause.{Cause}
-use Rattle.dali_system.specs.State.{SystemState, CoreState, state_in, state_of}
+use Rattle.dali_runs.specs.declared.causes.Cause.{Cause}
+use Rattle.dali_runs.specs.State.{SystemState, CoreState, state_in, state_of}
 use Rattle.dali_crash.specs.Checkpoints.{Point}
 use Rattle.dali_crash.specs.Traces.{Start}
-use Rattle.dali_vault.specs.Vaulted.{Vaulted}
+use Rattle.dali_core.specs.Vault.Vaulted.{Vaulted}
 use Rattle.dali_calls.specs.declared.plan.Phase.{Phase}
 use Rattle.dali_calls.specs.declared.plan.Phase.TheVariants.{Calling as IsCalling, Refused as IsRefused}
 use Rattle.dali_calls.specs.Plans.{Planned}
-use Rattle.dali_stepwise.specs.Beside.{LeavesBe}
-use Rattle.dali_stepwise.proofs.Waiting.{plan_waits, call_waits, rest_waits}
+use Rattle.dali_calls.specs.Stepwise.Beside.{LeavesBe}
+use Rattle.dali_calls.proofs.StepwiseLemmas.Waiting.{plan_waits, call_waits, rest_waits}
 use Rattle.dali_transcripts.specs.Words.{Act, Calls}
 use Rattle.dali_transcripts.specs.World.{Deed, World, log_of, logged_by}
 use Rattle.dali_transcripts.specs.Moves.{Receipt, operations}
@@ -23,12 +23,13 @@ use Rattle.dali_transcripts.specs.Rounds.{Standing, by}
 use Rattle.dali_transcripts.proofs.Growing.{askings, works, all_tried, asides, behinds, flushed, met, survives}
 use Rattle.dali_geometry.specs.Sizes.{Sizes}
 use Rattle.dali_record.specs.declared.operations.Pending.{Pending}
-use Rattle.dali_facts.specs.Ends.{IsEnding}
+use Rattle.dali_store.specs.declared.store.Store.{Ghosts}
+use Rattle.dali_runs.specs.Facts.Ends.{IsEnding}
 use Rattle.dali_turns.specs.Commits.{FitsCommitting}
-use Rattle.dali_deeds.specs.Tells.{Goes}
-use Rattle.dali_deeds.proofs.Told.{log_is}
-use Rattle.dali_clients.specs.declared.line.Why.{Why}
-use Rattle.dali_clients.specs.Told.{reason_of}
+use Rattle.dali_transcripts.specs.Telling.Tells.{Goes}
+use Rattle.dali_transcripts.proofs.TellingLemmas.Told.{log_is}
+use Rattle.dali_transcripts.specs.declared.clients.line.Why.{Why}
+use Rattle.dali_transcripts.specs.Clients.Told.{reason_of}
 use Rattle.dali_turns.specs.declared.client.Transaction.{Transaction}
 use Rattle.dali_turns.specs.declared.client.State.{State}
 use Rattle.dali_turns.specs.Stood.{Stood}
@@ -38,12 +39,12 @@ use Rattle.dali_turns.specs.Fits.{Owns}
 use Rattle.dali_turns.specs.Others.{LeavesOthers}
 use Rattle.dali_turns.proofs.Locking.{still_got}
 use Rattle.dali_turns.proofs.Rows.{had_row}
-use Rattle.dali_rounds.specs.Went.{is_open}
+use Rattle.dali_transactions.specs.Beside.Went.{is_open}
 
-module _ {V : Type 0} (told : V → Option Disk) (may_leave : V → Disk → Type 0) (faults : V → ℕ)
+module _ {V : Type 0} (means : Ghosts V)
     (s : Start) (B C : List (List Record)) (p q : Point) (w x : World) (gs hs : List RegionState) (y z : SystemState) (v u : Vaulted V) (precheck : Bool) (a b : Standing) (ds : List Deed) (yours : State)
-    (stood : Stood told may_leave faults s B p w precheck gs y v) (late : Stood told may_leave faults s C q x precheck hs z u)
-    (goes : Goes w b.client p ds x q) (leaves : LeavesOthers told may_leave faults yours s B p gs y v C q hs z u) where
+    (stood : Stood means s B p w precheck gs y v) (late : Stood means s C q x precheck hs z u)
+    (goes : Goes w b.client p ds x q) (leaves : LeavesOthers means yours s B p gs y v C q hs z u) where
   -- ---- the engine stays stopped
   stop_there : (cause : Cause) → p.core.system.stop ≡ Some cause → q.core.system.stop ≡ Some cause
   stop_there cause e =

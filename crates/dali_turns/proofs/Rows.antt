@@ -6,18 +6,18 @@ use Rattle.std.proofs.lemmas.List.Elements.{filter_map-append}
 use Rattle.std.proofs.lemmas.List.Sums.{fold-append}
 use Rattle.std.proofs.lemmas.Option.{slice_get_within}
 use Rattle.dali_lists.proofs.Lists.{get_front}
-use Rattle.dali_counts.proofs.Lists.{equal}
+use Rattle.dali_runs.proofs.CountsLemmas.Lists.{equal}
 use Rattle.dali_record.specs.declared.records.Record.{Record}
 use Rattle.dali_record.specs.declared.records.Record.TheVariants.{Begin, Commit, Ended}
 use Rattle.dali_att.specs.declared.state.State.{State}
 use Rattle.dali_att.specs.declared.state.State.TheVariants.{Live, Dead, Cleaning, Committed}
-use Rattle.dali_system.specs.declared.causes.Cause.{Cause}
-use Rattle.dali_system.specs.State.{CoreState, row_of, state_of}
+use Rattle.dali_runs.specs.declared.causes.Cause.{Cause}
+use Rattle.dali_runs.specs.State.{CoreState, row_of, state_of}
 use Rattle.dali_crash.specs.Checkpoints.{Point}
 use Rattle.dali_transcripts.specs.World.{Deed, Logs, DiesOn, Claims, GivesBack, Happening, World, record_of, logged_by, log_of, log_at, IsLogged, claimed, given_back, state_step, HasDiedBy, HasEndedBy}
 use Rattle.dali_transcripts.specs.Rounds.{by, IsBetween}
 use Rattle.dali_transcripts.proofs.Left.{is_left, DiedIn, left_by_deeds, dead_left, has_row}
-use Rattle.dali_deeds.specs.Tells.{after, Tells, Goes}
+use Rattle.dali_transcripts.specs.Telling.Tells.{after, Tells, Goes}
 use Rattle.dali_turns.specs.Stood.{HadRow}
 use Rattle.dali_turns.specs.Outside.{HasGone}
 use Rattle.dali_turns.proofs.Locking.{get_behind}

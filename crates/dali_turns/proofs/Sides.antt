@@ -8,7 +8,7 @@ use Rattle.std.proofs.lemmas.Bool.{ne_eqb}
 use Rattle.std.proofs.lemmas.Option.{none-some, same_Some}
 use Rattle.dali_lists.proofs.Members.{all_map}
 use Rattle.dali_lists.proofs.Tests.{not_both_ways}
-use Rattle.dali_counts.proofs.Lists.{equal, self}
+use Rattle.dali_runs.proofs.CountsLemmas.Lists.{equal, self}
 use Rattle.dali_record.specs.declared.operations.Block.{Block}
 use Rattle.dali_record.specs.declared.records.Record.{Record}
 use Rattle.dali_record.specs.declared.records.Record.TheVariants.{Forward, Back, Ended, Solo}
@@ -16,24 +16,24 @@ use Rattle.dali_region.specs.declared.Hold.{Hold}
 use Rattle.dali_region.specs.State.{RegionState, map_hold, reading, writing, touched, taken_back}
 use Rattle.dali_att.specs.declared.state.State.{State as RowState}
 use Rattle.dali_att.specs.declared.state.State.TheVariants.{Live, Dead, Cleaning, Committed}
-use Rattle.dali_system.specs.State.{CoreState, state_of, hold_in, hold_of}
-use Rattle.dali_system.specs.Run.{Bases, no_image}
-use Rattle.dali_system.specs.Keeps.{may_log_in, MayRecover}
-use Rattle.dali_system.specs.Regions.{RegionStep, Latch, NoteReads, Update, TakeBack, region_after}
-use Rattle.dali_system.specs.Wholes.{IsWhole, latched_in}
-use Rattle.dali_system.specs.declared.causes.Cause.{Cause}
-use Rattle.dali_system.specs.Courses.{Step, Operates, TakesBack, Frees, Ends, Locks, OnRegion, Claims, GivesBack, Recovers}
-use Rattle.dali_system.proofs.Courses.{step_goes}
-use Rattle.dali_system.proofs.WholeSteps.{whole_keeps}
+use Rattle.dali_runs.specs.State.{CoreState, state_of, hold_in, hold_of}
+use Rattle.dali_runs.specs.Run.{Bases, no_image}
+use Rattle.dali_runs.specs.Keeps.{may_log_in, MayRecover}
+use Rattle.dali_runs.specs.Regions.{RegionStep, Latch, NoteReads, Update, TakeBack, region_after}
+use Rattle.dali_runs.specs.Wholes.{IsWhole, latched_in}
+use Rattle.dali_runs.specs.declared.causes.Cause.{Cause}
+use Rattle.dali_runs.specs.Courses.{Step, Operates, TakesBack, Frees, Ends, Locks, OnRegion, Claims, GivesBack, Recovers}
+use Rattle.dali_runs.proofs.Courses.{step_goes}
+use Rattle.dali_runs.proofs.WholeSteps.{whole_keeps}
 use Rattle.dali_crash.specs.Checkpoints.{StoreStep, Does, Point, IsPointStep, IsPointCourse, moment_of}
 use Rattle.dali_crash.specs.StoreRuns.{StoreRun}
 use Rattle.dali_crash.proofs.StoreRuns.{bare_store_course_keeps}
 use Rattle.dali_clean.specs.Steps.{is_own_change}
 use Rattle.dali_clean.proofs.Lists.{get_set, get_apart}
-use Rattle.dali_single.specs.Ending.{IsBackOf}
-use Rattle.dali_single.specs.Settling.{IsSoloOf}
-use Rattle.dali_single.proofs.Lists.{all_both}
-use Rattle.dali_ends.specs.Ended.{AreOfEnd}
+use Rattle.dali_calls.specs.Single.Ending.{IsBackOf}
+use Rattle.dali_calls.specs.Single.Settling.{IsSoloOf}
+use Rattle.dali_calls.proofs.SingleLemmas.Lists.{all_both}
+use Rattle.dali_transactions.specs.Ended.{AreOfEnd}
 use Rattle.dali_transcripts.specs.World.{Deed, Logs, Claims as ClaimsTxn, GivesBack as GivesTxnBack, World, logged_by, log_of, claimed, given_back, state_step, state_after, state_at, is_dead_in, is_claimed_in, failing, has_failed, claimer_step, claimer_at, Grows}
 use Rattle.dali_transcripts.specs.Moves.{Receipt}
 use Rattle.dali_transcripts.specs.Causes.{IsCleaning, HasClaimed, HasGivenBack, IsUntouched, AreAside, AreBehind, IsRight}
@@ -43,11 +43,11 @@ use Rattle.dali_transcripts.specs.Rounds.{by}
 use Rattle.dali_transcripts.proofs.Owned.{counts}
 use Rattle.dali_transcripts.proofs.Growing.{placed, cleaning, has_claimed, given_back as given_back_on}
 use Rattle.dali_clean.proofs.Cleaning.{holds_at}
-use Rattle.dali_deeds.specs.Deeds.{AreOf}
-use Rattle.dali_deeds.specs.Tells.{after, AreRightThen, Tells, Goes}
-use Rattle.dali_deeds.specs.Laws.{AreOfCourse}
-use Rattle.dali_deeds.proofs.Told.{log_is}
-use Rattle.dali_deeds.proofs.Courses.{after_after}
+use Rattle.dali_transcripts.specs.Telling.Deeds.{AreOf}
+use Rattle.dali_transcripts.specs.Telling.Tells.{after, AreRightThen, Tells, Goes}
+use Rattle.dali_transcripts.specs.Telling.Laws.{AreOfCourse}
+use Rattle.dali_transcripts.proofs.TellingLemmas.Told.{log_is}
+use Rattle.dali_transcripts.proofs.TellingLemmas.Courses.{after_after}
 use Rattle.dali_turns.proofs.Deeds.{step_tells, course_tells, goes_on}
 use Rattle.dali_turns.proofs.Refusals.{front, done_last, runs_on_log, runs_there}
 

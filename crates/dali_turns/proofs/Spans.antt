@@ -4,10 +4,10 @@ use Rattle.std.specs.Prelude.{◌==◌}
 use Rattle.std.proofs.lemmas.List.{append-nil}
 use Rattle.std.proofs.lemmas.List.Concat.{flat_map-cons}
 use Rattle.std.proofs.lemmas.List.Sums.{fold-append}
-use Rattle.dali_counts.proofs.Lists.{some_same, self}
+use Rattle.dali_runs.proofs.CountsLemmas.Lists.{some_same, self}
 use Rattle.dali_record.specs.declared.records.Call.{Call}
 use Rattle.dali_record.specs.declared.records.Record.TheVariants.{Commit, Done, AuditBegin, AuditClean, AuditFail}
-use Rattle.dali_system.specs.declared.refusals.Refusal.{Refusal}
+use Rattle.dali_runs.specs.declared.refusals.Refusal.{Refusal}
 use Rattle.dali_transcripts.specs.Words.{Why, StoppedBy, Full, Damaged, StoreFailed, UnderWay}
 use Rattle.dali_transcripts.specs.World.{Deed, Logs, DiesOn, Claims, GivesBack, GetsLock, Yields, FindsDead, StartsCheckpoint, EndsCheckpoint, Meets, Happening, World, span_step, under_way}
 use Rattle.dali_transcripts.specs.Moves.{Receipt, Spot, Ending, TakenBack, LeftBehind, Move, Answers, IsRefusedCall, Dies, GivesWay, GivesUp, Commits, Aborts, IsRefusedAbort, Ends, StaysOpen, Audits, IsRefusedAudit, FailsCheckpoint, IsRefusedCheckpoint, own, to, end_own, spanned, refused_own}

@@ -8,16 +8,17 @@ use Rattle.dali_lists.proofs.Options.{none_of_test, some_of_test}
 use Rattle.dali_record.specs.declared.records.Record.{Record}
 use Rattle.dali_region.specs.State.{RegionState}
 use Rattle.dali_store.specs.Store.{Files as Disk}
-use Rattle.dali_system.specs.declared.causes.Cause.{Cause}
-use Rattle.dali_system.specs.State.{SystemState, CoreState}
-use Rattle.dali_system.specs.Steps.{taken, in_checkpoint}
-use Rattle.dali_system.specs.Courses.{Takes, Flushes}
+use Rattle.dali_store.specs.declared.store.Store.{Ghosts}
+use Rattle.dali_runs.specs.declared.causes.Cause.{Cause}
+use Rattle.dali_runs.specs.State.{SystemState, CoreState}
+use Rattle.dali_runs.specs.Steps.{taken, in_checkpoint}
+use Rattle.dali_runs.specs.Courses.{Takes, Flushes}
 use Rattle.dali_crash.specs.Checkpoints.{Does, Starts, Keeps as KeepsAll, WritesHead, Point}
 use Rattle.dali_crash.specs.Traces.{Start, bases_of}
-use Rattle.dali_vault.specs.Vaulted.{Vaulted}
+use Rattle.dali_core.specs.Vault.Vaulted.{Vaulted}
 use Rattle.dali_checkpoint.specs.Kept.{Checkpointed}
 use Rattle.dali_checkpoint.specs.Done.{HasStarted}
-use Rattle.dali_whole.specs.Cores.{IsNoShorter}
+use Rattle.dali_core.specs.Cores.{IsNoShorter}
 use Rattle.dali_checkpoint.specs.Running.{IsIdle}
 use Rattle.dali_checkpoint.specs.Laws.{Started}
 use Rattle.dali_checkpoint.proofs.Calls.{start_goes}
@@ -28,8 +29,8 @@ use Rattle.dali_transcripts.specs.Moves.{Receipt, Outside as IsOutside, Spot, at
 use Rattle.dali_transcripts.specs.Causes.{IsCutBy, IsAlone, AreUnfinished}
 use Rattle.dali_transcripts.specs.Laws.{receipts_from}
 use Rattle.dali_transcripts.specs.Rounds.{Standing, IsPlaced, by}
-use Rattle.dali_deeds.specs.Tells.{after}
-use Rattle.dali_deeds.specs.Laws.{IsNoFault}
+use Rattle.dali_transcripts.specs.Telling.Tells.{after}
+use Rattle.dali_transcripts.specs.Telling.Laws.{IsNoFault}
 use Rattle.dali_turns.specs.declared.client.Client.{Client}
 use Rattle.dali_turns.specs.declared.client.State.{State}
 use Rattle.dali_turns.specs.declared.client.State.TheVariants.{Outside, Copying}
@@ -69,9 +70,9 @@ making_on p q w a acts rest own m same flag = record {
   under = under_then w a.client [] q.core ∙ m.under;
 }
 
-module _ {V : Type 0} (told : V → Option Disk) (may_leave : V → Disk → Type 0) (faults : V → ℕ)
+module _ {V : Type 0} (means : Ghosts V)
     (precheck : Bool) (s : Start) (B : List (List Record)) (p : Point) (w : World) (a : Standing) (gs : List RegionState) (y : SystemState) (v : Vaulted V) (k j : Client)
-    (stood : Stood told may_leave faults s B p w precheck gs y v) (is : IsOf w a k)
+    (stood : Stood means s B p w precheck gs y v) (is : IsOf w a k)
     (fits : FitsOutside y a (rest_of k)) (more : List Act) (next : rest_of k ≡ CheckpointAct ∷ more) where
   abbrev number : ℕ
   number = length (log_of w)
@@ -80,7 +81,7 @@ module _ {V : Type 0} (told : V → Option Disk) (may_leave : V → Disk → Typ
   spot_is = fits.spot ∙ ap (at (IsOutside fits.said)) next
 
   -- the flag is clear: nothing is kept
-  pub idle : y.checking ≡ false → IsIdle told may_leave faults s B p gs y v
+  pub idle : y.checking ≡ false → IsIdle means s B p gs y v
   idle clear = record { at = stood.stands.at; flag = clear; begun = none_of_test p.begun (by_flag (is_some p.begun) refl) }
     where
       by_flag : (b : Bool) → is_some p.begun ≡ b → is_some p.begun ≡ false
@@ -88,12 +89,12 @@ module _ {V : Type 0} (told : V → Option Disk) (may_leave : V → Disk → Typ
       by_flag true e = let set : y.checking ≡ true = ap (λ (m : SystemState). m.checking) (sym stood.stands.at.system) ∙ stood.keeps e in let no : true ≡ false = sym set ∙ clear in absurd (cc)
 
   -- ---- Ok
-  module _ (stop : y.stop ≡ None) (clear : y.checking ≡ false) (c : Checkpointed) (u : Vaulted V) (started : HasStarted told may_leave faults y v c u) (files : IsNoShorter told v u) where
+  module _ (stop : y.stop ≡ None) (clear : y.checking ≡ false) (c : Checkpointed) (u : Vaulted V) (started : HasStarted means y v c u) (files : IsNoShorter means.told v u) where
     abbrev z : SystemState
     z = in_checkpoint (taken y) true
 
-    st : Started told may_leave faults s p gs y z u c
-    st = start_goes told may_leave faults s B p gs y z v u c (idle clear) started refl
+    st : Started means s p gs y z u c
+    st = start_goes means s B p gs y z v u c (idle clear) started refl
 
     runs : u.stopped ≡ false
     runs = started.writes.written.ok.runs
@@ -101,8 +102,8 @@ module _ {V : Type 0} (told : V → Option Disk) (may_leave : V → Disk → Typ
     abbrev now : World
     now = after w a.client (StartsCheckpoint ∷ []) st.to.core
 
-    did : Did told may_leave faults precheck s B p w a.client Outside gs y v (StartsCheckpoint ∷ []) st.batches st.to gs z u
-    did = did_course told may_leave faults precheck s B p w gs y v stood a.client Outside (Starts ∷ Does Takes ∷ Does Flushes ∷ KeepsAll ∷ WritesHead st.head ∷ []) (StartsCheckpoint ∷ []) st.batches st.to gs z u st.course (
+    did : Did means precheck s B p w a.client Outside gs y v (StartsCheckpoint ∷ []) st.batches st.to gs z u
+    did = did_course means precheck s B p w gs y v stood a.client Outside (Starts ∷ Does Takes ∷ Does Flushes ∷ KeepsAll ∷ WritesHead st.head ∷ []) (StartsCheckpoint ∷ []) st.batches st.to gs z u st.course (
       st.course.0,
       StartsCheckpoint ∷ [],
       [],
@@ -130,16 +131,16 @@ module _ {V : Type 0} (told : V → Option Disk) (may_leave : V → Disk → Typ
       ),
       refl,
     )
-        st.is.at stood.stands.dead (places_stay (told v.store) (told u.store) gs files stood.files) (record { unclaimed = stood.quiet.unclaimed })
+        st.is.at stood.stands.dead (places_stay (means.told v.store) (means.told u.store) gs files stood.files) (record { unclaimed = stood.quiet.unclaimed })
         (λ e. let no : true ≡ false = sym e ∙ runs in absurd (cc)) (λ t lives other. refl) (λ b other. refl) (λ set. let no : true ≡ false = sym set ∙ clear in absurd (cc))
 
     silent : fits.said ≡ false
     silent = says_none y fits.said fits.may stop
 
-    pub starts : j.transcript ≡ k.transcript → rest_of j ≡ rest_of k → j.state ≡ Copying c 0 → Went told may_leave faults precheck s B p w a Outside gs y v true j gs z u
+    pub starts : j.transcript ≡ k.transcript → rest_of j ≡ rest_of k → j.state ≡ Copying c 0 → Went means precheck s B p w a Outside gs y v true j gs z u
     starts same rest state =
-        went_on told may_leave faults precheck s B st.batches p st.to w a Outside gs gs y z v u (StartsCheckpoint ∷ []) k j is did true same
-        (subst (λ (x : State). Fits told may_leave faults s st.batches st.to now gs z u (behind a w (StartsCheckpoint ∷ [])) (rest_of j) x) (sym state) (record {
+        went_on means precheck s B st.batches p st.to w a Outside gs gs y z v u (StartsCheckpoint ∷ []) k j is did true same
+        (subst (λ (x : State). Fits means s st.batches st.to now gs z u (behind a w (StartsCheckpoint ∷ [])) (rest_of j) x) (sym state) (record {
           making = record {
             more = more;
             makes = rest ∙ next;
@@ -174,7 +175,7 @@ module _ {V : Type 0} (told : V → Option Disk) (may_leave : V → Disk → Typ
   pub refusal_stop : (cause : Cause) → y.stop ≡ Some cause → y.checking ≡ false → Refusal (StoppedBy cause)
   refusal_stop cause stop clear = record {
     no_fault = tt;
-    cause = stop_now (bases_of s) s.log w a.client p stood.stands.at.vault.run stood.tells (vault_stops told may_leave faults precheck s B p w gs y v stood) CheckpointAct None cause tt (ap (λ (m : SystemState). m.stop) stood.stands.at.system ∙ stop);
+    cause = stop_now (bases_of s) s.log w a.client p stood.stands.at.vault.run stood.tells (vault_stops means precheck s B p w gs y v stood) CheckpointAct None cause tt (ap (λ (m : SystemState). m.stop) stood.stands.at.system ∙ stop);
     alone = ap under_way (front w a.client (Meets (StoppedBy cause)) p.core) ∙ none_of_test (under_way w.happened) (sym flag_is ∙ clear);
     stops = λ e. ap is_some stop;
     cut = λ l. tt;
@@ -198,8 +199,8 @@ module _ {V : Type 0} (told : V → Option Disk) (may_leave : V → Disk → Typ
       whose = some_of_test (under_way w.happened) (sym flag_is ∙ set)
 
   module _ (r : Reason) (h : Refusal r) where
-    met_did : Did told may_leave faults precheck s B p w a.client Outside gs y v (Meets r ∷ []) B p gs y v
-    met_did = did_meet told may_leave faults precheck s B p w gs y v stood a.client Outside r h.no_fault (right_now w a.client p.core CheckpointAct None r h.cause)
+    met_did : Did means precheck s B p w a.client Outside gs y v (Meets r ∷ []) B p gs y v
+    met_did = did_meet means precheck s B p w gs y v stood a.client Outside r h.no_fault (right_now w a.client p.core CheckpointAct None r h.cause)
 
     abbrev move : Move
     move = IsRefusedCheckpoint fits.said None false [] number r more
@@ -210,19 +211,19 @@ module _ {V : Type 0} (told : V → Option Disk) (may_leave : V → Disk → Typ
     placed : IsPlaced false more
     placed = subst (IsPlaced false) next fits.placed
 
-    pub refused_start : j.transcript.client ≡ k.transcript.client → lines_of j ≡ lines_of k ++ Refused CheckpointAct r ∷ [] → rest_of j ≡ more → j.state ≡ Outside → Went told may_leave faults precheck s B p w a Outside gs y v true j gs y v
+    pub refused_start : j.transcript.client ≡ k.transcript.client → lines_of j ≡ lines_of k ++ Refused CheckpointAct r ∷ [] → rest_of j ≡ more → j.state ≡ Outside → Went means precheck s B p w a Outside gs y v true j gs y v
     refused_start client lines rest state =
-        went_by told may_leave faults precheck s B B p p w a Outside gs gs y y v v (Meets r ∷ []) k j is met_did move spot_is own_is (h.cut (after w a.client (Meets r ∷ []) p.core), refl, (met_now w a.client p.core CheckpointAct None r h.cause, h.alone)) client lines
-        (subst (λ (x : State). Fits told may_leave faults s B p (after w a.client (Meets r ∷ []) p.core) gs y v (ended a move) (rest_of j) x) (sym state) (outside_by y a move (fits.said || is_stop r) more (rest_of j) rest (may_say_more y fits.said r fits.may h.stops) refl placed))
+        went_by means precheck s B B p p w a Outside gs gs y y v v (Meets r ∷ []) k j is met_did move spot_is own_is (h.cut (after w a.client (Meets r ∷ []) p.core), refl, (met_now w a.client p.core CheckpointAct None r h.cause, h.alone)) client lines
+        (subst (λ (x : State). Fits means s B p (after w a.client (Meets r ∷ []) p.core) gs y v (ended a move) (rest_of j) x) (sym state) (outside_by y a move (fits.said || is_stop r) more (rest_of j) rest (may_say_more y fits.said r fits.may h.stops) refl placed))
         (rows_same Outside j.state y y refl (λ t none. none))
 
-    pub silent_start : j.transcript ≡ k.transcript → Went told may_leave faults precheck s B p w a Outside gs y v false j gs y v
-    silent_start same = went_silent told may_leave faults precheck s B B p p w a Outside gs gs y y v v (Meets r ∷ []) k j is met_did move spot_is own_is (h.cut (after w a.client (Meets r ∷ []) p.core), refl, (met_now w a.client p.core CheckpointAct None r h.cause, h.alone)) same
+    pub silent_start : j.transcript ≡ k.transcript → Went means precheck s B p w a Outside gs y v false j gs y v
+    silent_start same = went_silent means precheck s B B p p w a Outside gs gs y y v v (Meets r ∷ []) k j is met_did move spot_is own_is (h.cut (after w a.client (Meets r ∷ []) p.core), refl, (met_now w a.client p.core CheckpointAct None r h.cause, h.alone)) same
 
   -- ---- memory was refused
-  pub no_start : j.transcript ≡ k.transcript → Went told may_leave faults precheck s B p w a Outside gs y v false j gs y v
+  pub no_start : j.transcript ≡ k.transcript → Went means precheck s B p w a Outside gs y v false j gs y v
   no_start same =
-      went_on told may_leave faults precheck s B B p p w a Outside gs gs y y v v [] k j is (did_nothing told may_leave faults precheck s B p w gs y v stood a.client Outside) false same
+      went_on means precheck s B B p p w a Outside gs gs y y v v [] k j is (did_nothing means precheck s B p w gs y v stood a.client Outside) false same
       (inl (refl, unfinished (a.pending ++ []) (ap (λ xs. xs ++ []) fits.none) a.spot spot_is))
       (λ e. absurd (cc))
     where

@@ -3,18 +3,19 @@ use Rattle.std.proofs.Common.{◌≡◌, ℕ, Bool, true, false, List, [], ◌�
 use Rattle.dali_record.specs.declared.records.Record.{Record}
 use Rattle.dali_region.specs.State.{RegionState}
 use Rattle.dali_store.specs.Store.{Files as Disk}
-use Rattle.dali_system.specs.declared.causes.Cause.{Cause}
-use Rattle.dali_system.specs.State.{SystemState}
+use Rattle.dali_store.specs.declared.store.Store.{Ghosts}
+use Rattle.dali_runs.specs.declared.causes.Cause.{Cause}
+use Rattle.dali_runs.specs.State.{SystemState}
 use Rattle.dali_crash.specs.Checkpoints.{Point}
 use Rattle.dali_crash.specs.Traces.{Start, bases_of}
-use Rattle.dali_vault.specs.Vaulted.{Vaulted}
+use Rattle.dali_core.specs.Vault.Vaulted.{Vaulted}
 use Rattle.dali_transcripts.specs.Words.{Act, Commits as CommitAct, Aborts as AbortAct, Why as Reason, StoppedBy, LeftOpen, Refused}
 use Rattle.dali_transcripts.specs.World.{Meets, World, log_of}
 use Rattle.dali_transcripts.specs.Moves.{Outside as IsOutside, at, Move, IsRefusedCommit, IsRefusedAbort, StaysOpen, from, said, own, to}
 use Rattle.dali_transcripts.specs.Causes.{CanStop, MetCause, HasCause}
 use Rattle.dali_transcripts.specs.Rounds.{Standing, IsPlaced}
 use Rattle.std.specs.Prelude.{map}
-use Rattle.dali_clients.specs.Told.{act_of}
+use Rattle.dali_transcripts.specs.Clients.Told.{act_of}
 use Rattle.dali_turns.specs.declared.client.Client.{Client}
 use Rattle.dali_turns.specs.declared.client.State.{State}
 use Rattle.dali_turns.specs.declared.client.State.TheVariants.{Outside, Within}
@@ -23,13 +24,13 @@ use Rattle.dali_turns.specs.Stood.{Stood}
 use Rattle.dali_turns.specs.Within.{AreSoFar, FitsWithin}
 use Rattle.dali_turns.specs.Fits.{rest_of, lines_of, IsOf, Fits}
 use Rattle.dali_turns.specs.Goes.{RowsTell, Went}
-use Rattle.dali_deeds.specs.Tells.{after}
+use Rattle.dali_transcripts.specs.Telling.Tells.{after}
 use Rattle.dali_turns.proofs.Refusals.{HasCauseNow, met_now, right_now, stop_now}
 use Rattle.dali_turns.proofs.Doing.{Did, vault_stops, did_meet, ended, outside_by, went_by, went_silent}
 
-module _ {V : Type 0} (told : V → Option Disk) (may_leave : V → Disk → Type 0) (faults : V → ℕ)
+module _ {V : Type 0} (means : Ghosts V)
     (precheck : Bool) (s : Start) (B : List (List Record)) (p : Point) (w : World) (a : Standing) (gs : List RegionState) (y : SystemState) (v : Vaulted V) (k j : Client) (x : Transaction)
-    (stood : Stood told may_leave faults s B p w precheck gs y v) (is : IsOf w a k) (fits : FitsWithin p w a (rest_of k) x) (cause : Cause) (stop : y.stop ≡ Some cause) where
+    (stood : Stood means s B p w precheck gs y v) (is : IsOf w a k) (fits : FitsWithin p w a (rest_of k) x) (cause : Cause) (stop : y.stop ≡ Some cause) where
   abbrev why : Reason
   why = StoppedBy cause
 
@@ -38,14 +39,14 @@ module _ {V : Type 0} (told : V → Option Disk) (may_leave : V → Disk → Typ
 
   -- whatever it was told
   stopped_now : (act : Act) → CanStop act → HasCauseNow w a.client p.core act (Some x.txn) why
-  stopped_now act can = stop_now (bases_of s) s.log w a.client p stood.stands.at.vault.run stood.tells (vault_stops told may_leave faults precheck s B p w gs y v stood) act (Some x.txn) cause can
+  stopped_now act can = stop_now (bases_of s) s.log w a.client p stood.stands.at.vault.run stood.tells (vault_stops means precheck s B p w gs y v stood) act (Some x.txn) cause can
       (ap (λ (z : SystemState). z.stop) stood.stands.at.system ∙ stop)
 
   met : (act : Act) → CanStop act → MetCause here a.client (length (log_of w)) act (Some x.txn) why
   met act can = met_now w a.client p.core act (Some x.txn) why (stopped_now act can)
 
-  did : Did told may_leave faults precheck s B p w a.client (Within x) gs y v (Meets why ∷ []) B p gs y v
-  did = did_meet told may_leave faults precheck s B p w gs y v stood a.client (Within x) why tt (right_now w a.client p.core AbortAct (Some x.txn) why (stopped_now AbortAct tt))
+  did : Did means precheck s B p w a.client (Within x) gs y v (Meets why ∷ []) B p gs y v
+  did = did_meet means precheck s B p w gs y v stood a.client (Within x) why tt (right_now w a.client p.core AbortAct (Some x.txn) why (stopped_now AbortAct tt))
 
   -- no transaction is live while the engine runs: it doesn't run
   rows : (new : State) → RowsTell (Within x) y new y
@@ -56,14 +57,14 @@ module _ {V : Type 0} (told : V → Option Disk) (may_leave : V → Disk → Typ
     own_was : a.pending ++ (length (log_of w), Meets why) ∷ [] ≡ own m
     own_was = ap (λ xs. xs ++ (length (log_of w), Meets why) ∷ []) none ∙ sym own_is
 
-    refused : j.transcript.client ≡ k.transcript.client → lines_of j ≡ lines_of k ++ said m → rest_of j ≡ more → j.state ≡ Outside → Went told may_leave faults precheck s B p w a (Within x) gs y v true j gs y v
+    refused : j.transcript.client ≡ k.transcript.client → lines_of j ≡ lines_of k ++ said m → rest_of j ≡ more → j.state ≡ Outside → Went means precheck s B p w a (Within x) gs y v true j gs y v
     refused client lines rest state =
-        went_by told may_leave faults precheck s B B p p w a (Within x) gs gs y y v v (Meets why ∷ []) k j is did m starts own_was caused client lines
-        (subst (λ (z : State). Fits told may_leave faults s B p here gs y v (ended a m) (rest_of j) z) (sym state) (outside_by y a m true more (rest_of j) rest (λ e. ap is_some stop) ends placed))
+        went_by means precheck s B B p p w a (Within x) gs gs y y v v (Meets why ∷ []) k j is did m starts own_was caused client lines
+        (subst (λ (z : State). Fits means s B p here gs y v (ended a m) (rest_of j) z) (sym state) (outside_by y a m true more (rest_of j) rest (λ e. ap is_some stop) ends placed))
         (rows j.state)
 
-    unsaid : j.transcript ≡ k.transcript → Went told may_leave faults precheck s B p w a (Within x) gs y v false j gs y v
-    unsaid same = went_silent told may_leave faults precheck s B B p p w a (Within x) gs gs y y v v (Meets why ∷ []) k j is did m starts own_was caused same
+    unsaid : j.transcript ≡ k.transcript → Went means precheck s B p w a (Within x) gs y v false j gs y v
+    unsaid same = went_silent means precheck s B B p p w a (Within x) gs gs y y v v (Meets why ∷ []) k j is did m starts own_was caused same
 
   -- what is left of the block, where it is told to end the transaction
   module _ (act : Act) (more : List Act) (next : rest_of k ≡ act ∷ more) (none : AreSoFar w a.client x.txn (act ∷ more) a.pending → a.pending ≡ []) where
@@ -81,10 +82,10 @@ module _ {V : Type 0} (told : V → Option Disk) (may_leave : V → Disk → Typ
     commit_starts : a.spot ≡ from commit_move
     commit_starts = fits.spot ∙ ap (λ acts. at (from commit_move).place acts) next
 
-    pub commit_refused : j.transcript.client ≡ k.transcript.client → lines_of j ≡ lines_of k ++ Refused CommitAct why ∷ [] → rest_of j ≡ more → j.state ≡ Outside → Went told may_leave faults precheck s B p w a (Within x) gs y v true j gs y v
+    pub commit_refused : j.transcript.client ≡ k.transcript.client → lines_of j ≡ lines_of k ++ Refused CommitAct why ∷ [] → rest_of j ≡ more → j.state ≡ Outside → Went means precheck s B p w a (Within x) gs y v true j gs y v
     commit_refused = refused commit_move more commit_starts refl (none_pending CommitAct more next (λ e. e)) (met CommitAct tt) refl (placed_there CommitAct more next (λ e. e))
 
-    pub commit_unsaid : j.transcript ≡ k.transcript → Went told may_leave faults precheck s B p w a (Within x) gs y v false j gs y v
+    pub commit_unsaid : j.transcript ≡ k.transcript → Went means precheck s B p w a (Within x) gs y v false j gs y v
     commit_unsaid = unsaid commit_move more commit_starts refl (none_pending CommitAct more next (λ e. e)) (met CommitAct tt) refl (placed_there CommitAct more next (λ e. e))
 
   -- ---- an abort
@@ -95,10 +96,10 @@ module _ {V : Type 0} (told : V → Option Disk) (may_leave : V → Disk → Typ
     abort_starts : a.spot ≡ from abort_move
     abort_starts = fits.spot ∙ ap (λ acts. at (from abort_move).place acts) next
 
-    pub abort_refused : j.transcript.client ≡ k.transcript.client → lines_of j ≡ lines_of k ++ Refused AbortAct why ∷ [] → rest_of j ≡ more → j.state ≡ Outside → Went told may_leave faults precheck s B p w a (Within x) gs y v true j gs y v
+    pub abort_refused : j.transcript.client ≡ k.transcript.client → lines_of j ≡ lines_of k ++ Refused AbortAct why ∷ [] → rest_of j ≡ more → j.state ≡ Outside → Went means precheck s B p w a (Within x) gs y v true j gs y v
     abort_refused = refused abort_move more abort_starts refl (none_pending AbortAct more next (λ e. e)) (tt, met AbortAct tt) refl (placed_there AbortAct more next (λ e. e))
 
-    pub abort_unsaid : j.transcript ≡ k.transcript → Went told may_leave faults precheck s B p w a (Within x) gs y v false j gs y v
+    pub abort_unsaid : j.transcript ≡ k.transcript → Went means precheck s B p w a (Within x) gs y v false j gs y v
     abort_unsaid = unsaid abort_move more abort_starts refl (none_pending AbortAct more next (λ e. e)) (tt, met AbortAct tt) refl (placed_there AbortAct more next (λ e. e))
 
   -- ---- the end of the block
@@ -112,8 +113,8 @@ module _ {V : Type 0} (told : V → Option Disk) (may_leave : V → Disk → Typ
     none_open : a.pending ≡ []
     none_open = subst (λ acts. AreSoFar w a.client x.txn acts a.pending) next fits.so_far
 
-    pub end_refused : j.transcript.client ≡ k.transcript.client → lines_of j ≡ lines_of k ++ LeftOpen ∷ [] → rest_of j ≡ [] → j.state ≡ Outside → Went told may_leave faults precheck s B p w a (Within x) gs y v true j gs y v
+    pub end_refused : j.transcript.client ≡ k.transcript.client → lines_of j ≡ lines_of k ++ LeftOpen ∷ [] → rest_of j ≡ [] → j.state ≡ Outside → Went means precheck s B p w a (Within x) gs y v true j gs y v
     end_refused = refused open_move [] open_starts refl none_open (tt, met AbortAct tt) refl tt
 
-    pub end_unsaid : j.transcript ≡ k.transcript → Went told may_leave faults precheck s B p w a (Within x) gs y v false j gs y v
+    pub end_unsaid : j.transcript ≡ k.transcript → Went means precheck s B p w a (Within x) gs y v false j gs y v
     end_unsaid = unsaid open_move [] open_starts refl none_open (tt, met AbortAct tt) refl tt

@@ -3,7 +3,7 @@ use Rattle.std.proofs.Common.{◌≡◌, ℕ, Bool, true, false, List, [], ◌�
 use Rattle.std.specs.Prelude.{◌==◌, filter}
 use Rattle.std.proofs.lemmas.List.{append-nil, map-append}
 use Rattle.dali_lists.proofs.Members.{all_append, all_map}
-use Rattle.dali_counts.proofs.Lists.{equal, same_number}
+use Rattle.dali_runs.proofs.CountsLemmas.Lists.{equal, same_number}
 use Rattle.dali_record.specs.declared.operations.Pending.{Pending}
 use Rattle.dali_record.specs.declared.records.Call.{Call}
 use Rattle.dali_record.specs.declared.records.Record.{Record}
@@ -11,16 +11,17 @@ use Rattle.dali_record.specs.declared.records.Record.TheVariants.{Forward}
 use Rattle.dali_region.specs.State.{RegionState}
 use Rattle.dali_att.specs.declared.state.State.TheVariants.{Live}
 use Rattle.dali_store.specs.Store.{Files as Disk}
-use Rattle.dali_system.specs.declared.causes.Cause.{Cause}
-use Rattle.dali_system.specs.State.{SystemState, state_of}
-use Rattle.dali_system.specs.Keeps.{IsFree}
+use Rattle.dali_store.specs.declared.store.Store.{Ghosts}
+use Rattle.dali_runs.specs.declared.causes.Cause.{Cause}
+use Rattle.dali_runs.specs.State.{SystemState, state_of}
+use Rattle.dali_runs.specs.Keeps.{IsFree}
 use Rattle.dali_crash.specs.Checkpoints.{Point}
 use Rattle.dali_crash.specs.Traces.{Start, bases_of}
-use Rattle.dali_vault.specs.Vaulted.{Vaulted}
-use Rattle.dali_core.specs.declared.want.Want.TheVariants.{Nothing}
+use Rattle.dali_core.specs.Vault.Vaulted.{Vaulted}
+use Rattle.dali_system.specs.declared.want.Want.TheVariants.{Nothing}
 use Rattle.dali_calls.specs.Plans.{Planned, want_of, IsWhole}
-use Rattle.dali_single.specs.Single.{MayCall}
-use Rattle.dali_stepwise.proofs.Turning.{turned_ends}
+use Rattle.dali_calls.specs.Single.Single.{MayCall}
+use Rattle.dali_calls.proofs.StepwiseLemmas.Turning.{turned_ends}
 use Rattle.dali_transcripts.specs.Words.{Act, Calls, StoppedBy, is_stop}
 use Rattle.dali_transcripts.specs.World.{Logs, GetsLock, FindsDead, Meets, World, log_of}
 use Rattle.dali_transcripts.specs.Moves.{Receipt, Within as IsWithin, at, Move, IsRefusedCall, is_operation, operations, left}
@@ -28,12 +29,12 @@ use Rattle.dali_transcripts.specs.Causes.{IsAside, AreAside, IsTried, AreTried, 
 use Rattle.dali_transcripts.specs.Rounds.{Standing, IsPlaced}
 use Rattle.dali_transcripts.proofs.Grants.{granted_asks, granted_more}
 use Rattle.dali_transcripts.proofs.Growing.{all_tried, asides, met, survives, turned_back}
-use Rattle.dali_deeds.specs.Tells.{after}
-use Rattle.dali_clients.specs.declared.command.Command.TheVariants.{Call as IsCall}
-use Rattle.dali_clients.specs.declared.line.Line.TheVariants.{Refused as RefusedLine}
-use Rattle.dali_clients.specs.declared.line.Why.{Why}
-use Rattle.dali_clients.specs.declared.line.Why.TheVariants.{Stopped}
-use Rattle.dali_clients.specs.Told.{act_of, reason_of, said_of}
+use Rattle.dali_transcripts.specs.Telling.Tells.{after}
+use Rattle.dali_transcripts.specs.declared.clients.command.Command.TheVariants.{Call as IsCall}
+use Rattle.dali_transcripts.specs.declared.clients.line.Line.TheVariants.{Refused as RefusedLine}
+use Rattle.dali_transcripts.specs.declared.clients.line.Why.{Why}
+use Rattle.dali_transcripts.specs.declared.clients.line.Why.TheVariants.{Stopped}
+use Rattle.dali_transcripts.specs.Clients.Told.{act_of, reason_of, said_of}
 use Rattle.dali_turns.specs.declared.client.Client.{Client}
 use Rattle.dali_turns.specs.declared.client.State.{State}
 use Rattle.dali_turns.specs.declared.client.State.TheVariants.{Within, TakingBack}
@@ -50,7 +51,7 @@ use Rattle.dali_turns.proofs.Calling.{behind_one, none_so_far, due_left}
 use Rattle.dali_turns.proofs.Reasons.{command_is}
 use Rattle.dali_turns.proofs.Refusing.{stays_back}
 use Rattle.dali_turns.proofs.Cutting.{more_none, turned_cut}
-use Rattle.dali_rounds.specs.Went.{is_open}
+use Rattle.dali_transactions.specs.Beside.Went.{is_open}
 
 -- ---- what was taken back, or cleaned up
 pub aside_tried : (w : World) (c t : ℕ) (call : Call) (x : Receipt) → IsAside w c t x → IsTried w c t call x
@@ -68,9 +69,9 @@ pub asides_none : (w : World) (c t : ℕ) (xs : List Receipt) → AreAside w c t
 asides_none w c t [] h = refl
 asides_none w c t (x ∷ xs) h = ap (λ (k : Bool). length (if k then x ∷ filter (is_operation t) xs else filter (is_operation t) xs)) (aside_none w c t x h.0) ∙ asides_none w c t xs h.1
 
-module _ {V : Type 0} (told : V → Option Disk) (may_leave : V → Disk → Type 0) (faults : V → ℕ)
+module _ {V : Type 0} (means : Ghosts V)
     (precheck : Bool) (s : Start) (B : List (List Record)) (p : Point) (w : World) (a : Standing) (gs : List RegionState) (y : SystemState) (v : Vaulted V) (k j : Client)
-    (x : Transaction) (plan : Planned) (why : Why) (stood : Stood told may_leave faults s B p w precheck gs y v) (is : IsOf w a k) (fits : FitsTakingBack p w a (rest_of k) x plan why) where
+    (x : Transaction) (plan : Planned) (why : Why) (stood : Stood means s B p w precheck gs y v) (is : IsOf w a k) (fits : FitsTakingBack p w a (rest_of k) x plan why) where
   pub next_command : next_of k ≡ Some (IsCall fits.call)
   next_command = command_is k.rest.now fits.call fits.more fits.calls
 
@@ -97,14 +98,14 @@ module _ {V : Type 0} (told : V → Option Disk) (may_leave : V → Disk → Typ
       by_test false e = inr (alive, λ same. let one : (x.txn == t) ≡ true = same_number x.txn t same in let no : true ≡ false = sym one ∙ e in absurd (cc))
 
   -- ---- for want of memory nothing is said
-  did_none : Did told may_leave faults precheck s B p w a.client (TakingBack x plan why) gs y v [] B p gs y v
-  did_none = did_nothing told may_leave faults precheck s B p w gs y v stood a.client (TakingBack x plan why)
+  did_none : Did means precheck s B p w a.client (TakingBack x plan why) gs y v [] B p gs y v
+  did_none = did_nothing means precheck s B p w gs y v stood a.client (TakingBack x plan why)
 
   abbrev still : World
   still = after w a.client [] p.core
 
-  pub back_nowhere : j.transcript ≡ k.transcript → Went told may_leave faults precheck s B p w a (TakingBack x plan why) gs y v false j gs y v
-  back_nowhere same = went_on told may_leave faults precheck s B B p p w a (TakingBack x plan why) gs gs y y v v [] k j is did_none false same (inl (refl, so_far)) (λ e. absurd (cc))
+  pub back_nowhere : j.transcript ≡ k.transcript → Went means precheck s B p w a (TakingBack x plan why) gs y v false j gs y v
+  back_nowhere same = went_on means precheck s B B p p w a (TakingBack x plan why) gs gs y y v v [] k j is did_none false same (inl (refl, so_far)) (λ e. absurd (cc))
     where
       so_far : AreUnfinished still a.client a.spot.place a.spot.rest (a.pending ++ [])
       so_far =
@@ -153,15 +154,15 @@ module _ {V : Type 0} (told : V → Option Disk) (may_leave : V → Disk → Typ
       may_call = λ e. may;
     }
 
-    pub ended_said : Finishes k (Within x) (RefusedLine (IsCall fits.call) why) j → Went told may_leave faults precheck s B p w a (TakingBack x plan why) gs y v true j gs y v
+    pub ended_said : Finishes k (Within x) (RefusedLine (IsCall fits.call) why) j → Went means precheck s B p w a (TakingBack x plan why) gs y v true j gs y v
     ended_said f =
-        went_by told may_leave faults precheck s B B p p w a (TakingBack x plan why) gs gs y y v v [] k j is did_none move spot (append-nil a.pending ∙ fits.pending) cause
+        went_by means precheck s B B p p w a (TakingBack x plan why) gs gs y y v v [] k j is did_none move spot (append-nil a.pending ∙ fits.pending) cause
         (ap (λ t. t.client) f.transcript) (ap (λ t. map said_of t.lines) f.transcript ∙ map-append said_of k.transcript.lines (RefusedLine (IsCall fits.call) why ∷ []))
-        (subst (λ (n : State). Fits told may_leave faults s B p still gs y v (ended a move) (rest_of j) n) (sym f.stands) (fits_behind (rest_of j) (behind_one k.rest.now j.rest.now _ fits.more fits.calls f.rest)))
+        (subst (λ (n : State). Fits means s B p still gs y v (ended a move) (rest_of j) n) (sym f.stands) (fits_behind (rest_of j) (behind_one k.rest.now j.rest.now _ fits.more fits.calls f.rest)))
         (rows j.state f.stands)
 
-    pub ended_unsaid : j.transcript ≡ k.transcript → Went told may_leave faults precheck s B p w a (TakingBack x plan why) gs y v false j gs y v
-    ended_unsaid same = went_silent told may_leave faults precheck s B B p p w a (TakingBack x plan why) gs gs y y v v [] k j is did_none move spot (append-nil a.pending ∙ fits.pending) cause same
+    pub ended_unsaid : j.transcript ≡ k.transcript → Went means precheck s B p w a (TakingBack x plan why) gs y v false j gs y v
+    ended_unsaid same = went_silent means precheck s B B p p w a (TakingBack x plan why) gs gs y y v v [] k j is did_none move spot (append-nil a.pending ∙ fits.pending) cause same
 
   -- ---- the engine is stopped, and what is left of it stays
   module _ (stop : Cause) (stopped : y.stop ≡ Some stop) where
@@ -170,11 +171,11 @@ module _ {V : Type 0} (told : V → Option Disk) (may_leave : V → Disk → Typ
 
     here : HasCauseNow w a.client p.core (Calls fits.call) (Some x.txn) (StoppedBy stop)
     here =
-        stop_now (bases_of s) s.log w a.client p stood.stands.at.vault.run stood.tells (vault_stops told may_leave faults precheck s B p w gs y v stood) (Calls fits.call) (Some x.txn) stop tt
+        stop_now (bases_of s) s.log w a.client p stood.stands.at.vault.run stood.tells (vault_stops means precheck s B p w gs y v stood) (Calls fits.call) (Some x.txn) stop tt
         (ap (λ (m : SystemState). m.stop) stood.stands.at.system ∙ stopped)
 
-    did_stop : Did told may_leave faults precheck s B p w a.client (TakingBack x plan why) gs y v (Meets (StoppedBy stop) ∷ []) B p gs y v
-    did_stop = did_meet told may_leave faults precheck s B p w gs y v stood a.client (TakingBack x plan why) (StoppedBy stop) tt (right_now w a.client p.core (Calls fits.call) (Some x.txn) (StoppedBy stop) here)
+    did_stop : Did means precheck s B p w a.client (TakingBack x plan why) gs y v (Meets (StoppedBy stop) ∷ []) B p gs y v
+    did_stop = did_meet means precheck s B p w gs y v stood a.client (TakingBack x plan why) (StoppedBy stop) tt (right_now w a.client p.core (Calls fits.call) (Some x.txn) (StoppedBy stop) here)
 
     abbrev stop_move : Move
     stop_move = IsRefusedCall x.txn x.tries (map act_of x.commands.now) fits.deadly false a.pending (length (log_of w)) [] fits.call (StoppedBy stop) fits.more
@@ -206,12 +207,12 @@ module _ {V : Type 0} (told : V → Option Disk) (may_leave : V → Disk → Typ
       may_call = λ e. let some : Some stop ≡ None = sym stopped ∙ (ap (λ (m : SystemState). m.stop) (sym stood.stands.at.system) ∙ e) in absurd (cc);
     }
 
-    pub stuck_said : Finishes k (Within x) (RefusedLine (IsCall fits.call) (Stopped stop)) j → Went told may_leave faults precheck s B p w a (TakingBack x plan why) gs y v true j gs y v
+    pub stuck_said : Finishes k (Within x) (RefusedLine (IsCall fits.call) (Stopped stop)) j → Went means precheck s B p w a (TakingBack x plan why) gs y v true j gs y v
     stuck_said f =
-        went_by told may_leave faults precheck s B B p p w a (TakingBack x plan why) gs gs y y v v (Meets (StoppedBy stop) ∷ []) k j is did_stop stop_move spot refl stop_cause
+        went_by means precheck s B B p p w a (TakingBack x plan why) gs gs y y v v (Meets (StoppedBy stop) ∷ []) k j is did_stop stop_move spot refl stop_cause
         (ap (λ t. t.client) f.transcript) (ap (λ t. map said_of t.lines) f.transcript ∙ map-append said_of k.transcript.lines (RefusedLine (IsCall fits.call) (Stopped stop) ∷ []))
-        (subst (λ (n : State). Fits told may_leave faults s B p now gs y v (ended a stop_move) (rest_of j) n) (sym f.stands) (stopped_behind (rest_of j) (behind_one k.rest.now j.rest.now _ fits.more fits.calls f.rest)))
+        (subst (λ (n : State). Fits means s B p now gs y v (ended a stop_move) (rest_of j) n) (sym f.stands) (stopped_behind (rest_of j) (behind_one k.rest.now j.rest.now _ fits.more fits.calls f.rest)))
         (rows j.state f.stands)
 
-    pub stuck_unsaid : j.transcript ≡ k.transcript → Went told may_leave faults precheck s B p w a (TakingBack x plan why) gs y v false j gs y v
-    stuck_unsaid same = went_silent told may_leave faults precheck s B B p p w a (TakingBack x plan why) gs gs y y v v (Meets (StoppedBy stop) ∷ []) k j is did_stop stop_move spot refl stop_cause same
+    pub stuck_unsaid : j.transcript ≡ k.transcript → Went means precheck s B p w a (TakingBack x plan why) gs y v false j gs y v
+    stuck_unsaid same = went_silent means precheck s B B p p w a (TakingBack x plan why) gs gs y y v v (Meets (StoppedBy stop) ∷ []) k j is did_stop stop_move spot refl stop_cause same

@@ -6,18 +6,19 @@ use Rattle.std.proofs.lemmas.List.Elements.{filter_map-append}
 use Rattle.dali_record.specs.declared.records.Record.{Record}
 use Rattle.dali_region.specs.State.{RegionState}
 use Rattle.dali_store.specs.Store.{Files as Disk}
-use Rattle.dali_system.specs.State.{SystemState}
+use Rattle.dali_store.specs.declared.store.Store.{Ghosts}
+use Rattle.dali_runs.specs.State.{SystemState}
 use Rattle.dali_crash.specs.Checkpoints.{Point}
 use Rattle.dali_crash.specs.Traces.{Start, bases_of}
-use Rattle.dali_vault.specs.Vaulted.{Vaulted}
+use Rattle.dali_core.specs.Vault.Vaulted.{Vaulted}
 use Rattle.dali_transcripts.specs.World.{Deed, Logs, Strays, DiesOn, Claims, GivesBack, GetsLock, Yields, FindsDead, StartsCheckpoint, MovesAnchor, EndsCheckpoint, Meets, Happening, World, record_of, logged_by, log_of, Grows}
 use Rattle.dali_transcripts.specs.Transcripts.{count_with, owned, deeds_of, number_in, numbers_of}
 use Rattle.dali_transcripts.specs.Rounds.{Standing, by}
 use Rattle.dali_transcripts.specs.Laws.{receipts_from}
 use Rattle.dali_transcripts.proofs.Owned.{own_goes_on}
-use Rattle.dali_clients.specs.Said.{Transcribed, logged}
-use Rattle.dali_clients.specs.Told.{said_of, act_of}
-use Rattle.dali_deeds.specs.Tells.{Goes}
+use Rattle.dali_transcripts.specs.Clients.Said.{Transcribed, logged}
+use Rattle.dali_transcripts.specs.Clients.Told.{said_of, act_of}
+use Rattle.dali_transcripts.specs.Telling.Tells.{Goes}
 use Rattle.dali_turns.specs.declared.client.Client.{Client}
 use Rattle.dali_turns.specs.declared.client.State.{State}
 use Rattle.dali_turns.specs.Stood.{Stood}
@@ -96,7 +97,7 @@ pub record LooksSame (k j : Client) : Type 0 where
   pub client : j.transcript.client ≡ k.transcript.client
   pub lines : j.transcript.lines ≡ k.transcript.lines
 
-module _ {V : Type 0} (told : V → Option Disk) (may_leave : V → Disk → Type 0) (faults : V → ℕ) where
+module _ {V : Type 0} (means : Ghosts V) where
   pub is_same : (w : World) (a : Standing) (k j : Client) → LooksSame k j → IsOf w a k → IsOf w a j
   is_same w a k j same is = record { client = is.client ∙ sym same.client; lines = is.lines ∙ ap (map said_of) (sym same.lines); stands = is.stands; others = is.others }
 
@@ -104,40 +105,40 @@ module _ {V : Type 0} (told : V → Option Disk) (may_leave : V → Disk → Typ
   speaks_same w a k j same is = record { client = is.client ∙ sym same.client; lines = is.lines ∙ ap (map said_of) (sym same.lines); stands = is.stands }
 
   pub fits_same : (s : Start) (B : List (List Record)) (p : Point) (w : World) (gs : List RegionState) (y : SystemState) (v : Vaulted V) (a : Standing) (k j : Client) → LooksSame k j
-      → Fits told may_leave faults s B p w gs y v a (rest_of k) k.state → Fits told may_leave faults s B p w gs y v a (rest_of j) j.state
+      → Fits means s B p w gs y v a (rest_of k) k.state → Fits means s B p w gs y v a (rest_of j) j.state
   fits_same s B p w gs y v a k j same fits =
-      subst (λ (st : State). Fits told may_leave faults s B p w gs y v a (rest_of j) st) (sym same.state)
-      (subst (λ l. Fits told may_leave faults s B p w gs y v a l k.state) (sym (ap (map act_of) same.rest)) fits)
+      subst (λ (st : State). Fits means s B p w gs y v a (rest_of j) st) (sym same.state)
+      (subst (λ l. Fits means s B p w gs y v a l k.state) (sym (ap (map act_of) same.rest)) fits)
 
   came_same : (ok : Bool) (s : Start) (B : List (List Record)) (p : Point) (w : World) (gs : List RegionState) (y : SystemState) (v : Vaulted V) (a : Standing) (k j : Client) → LooksSame k j
-      → Came told may_leave faults ok s B p w gs y v a k → Came told may_leave faults ok s B p w gs y v a j
+      → Came means ok s B p w gs y v a k → Came means ok s B p w gs y v a j
   came_same true s B p w gs y v a k j same came = fits_same s B p w gs y v a k j same came
   came_same false s B p w gs y v a k j same came = came
 
   -- the log grows
-  records_grow : (precheck : Bool) (k before behind : Client) (gs hs : List RegionState) (y z : SystemState) (v u : Vaulted V) (ok : Bool) → LooksSame k before → StepGoes told may_leave faults precheck before.state before gs y v ok behind hs z u
-      → (s : Start) (B : List (List Record)) (p : Point) (w : World) (a : Standing) → Stood told may_leave faults s B p w precheck gs y v → IsOf w a k → Fits told may_leave faults s B p w gs y v a (rest_of k) k.state → y.records ≤ z.records
+  records_grow : (precheck : Bool) (k before behind : Client) (gs hs : List RegionState) (y z : SystemState) (v u : Vaulted V) (ok : Bool) → LooksSame k before → StepGoes means precheck before.state before gs y v ok behind hs z u
+      → (s : Start) (B : List (List Record)) (p : Point) (w : World) (a : Standing) → Stood means s B p w precheck gs y v → IsOf w a k → Fits means s B p w gs y v a (rest_of k) k.state → y.records ≤ z.records
   records_grow precheck k before behind gs hs y z v u ok same goes s B p w a stood is fits =
-      let went : Went told may_leave faults precheck s B p w a before.state gs y v ok behind hs z u = goes s B p w a stood (is_same w a k before same is) (fits_same s B p w gs y v a k before same fits) in
+      let went : Went means precheck s B p w a before.state gs y v ok behind hs z u = goes s B p w a stood (is_same w a k before same is) (fits_same s B p w gs y v a k before same fits) in
       let first : y.records ≡ length (log_of w) = ap (λ (x : SystemState). x.records) (sym stood.stands.at.system) ∙ records_are (bases_of s) s.log w p stood.stands.at.vault.run stood.tells in
       let last : z.records ≡ length (log_of went.world) =
       ap (λ (x : SystemState). x.records) (sym went.stood.stands.at.system) ∙ records_are (bases_of s) s.log went.world went.to went.stood.stands.at.vault.run went.stood.tells in
       omega (arith, first, last, log_grown w went.world a.client went.deeds went.goes.grows went.goes.more)
 
-  pub never_shrinks : (precheck : Bool) (k before behind j : Client) (gs hs : List RegionState) (y z : SystemState) (v u : Vaulted V) (ok cut : Bool) → LooksSame k before → StepGoes told may_leave faults precheck before.state before gs y v ok behind hs z u
-      → z.records < y.records → TurnGoes told may_leave faults precheck k gs y v cut j hs z u
+  pub never_shrinks : (precheck : Bool) (k before behind j : Client) (gs hs : List RegionState) (y z : SystemState) (v u : Vaulted V) (ok cut : Bool) → LooksSame k before → StepGoes means precheck before.state before gs y v ok behind hs z u
+      → z.records < y.records → TurnGoes means precheck k gs y v cut j hs z u
   never_shrinks precheck k before behind j gs hs y z v u ok cut same goes less s B p w a stood is fits handed =
       let grows : y.records ≤ z.records = records_grow precheck k before behind gs hs y z v u ok same goes s B p w a stood is fits in absurd (omega (arith, grows, less))
 
   module _ (precheck : Bool) (k before behind j : Client) (gs hs : List RegionState) (y z : SystemState) (v u : Vaulted V) (ok : Bool)
-      (same : LooksSame k before) (goes : StepGoes told may_leave faults precheck before.state before gs y v ok behind hs z u) (also : LooksSame behind j)
+      (same : LooksSame k before) (goes : StepGoes means precheck before.state before gs y v ok behind hs z u) (also : LooksSame behind j)
       (upto : ℕ) (notes : NotesTo k j y.records upto z.records) where
-    module _ (s : Start) (B : List (List Record)) (p : Point) (w : World) (a : Standing) (stood : Stood told may_leave faults s B p w precheck gs y v) (is : IsOf w a k)
-        (fits : Fits told may_leave faults s B p w gs y v a (rest_of k) k.state) (handed : AreReceipts true w k) where
-      abbrev went : Went told may_leave faults precheck s B p w a k.state gs y v ok behind hs z u
-      went = subst (λ (st : State). Went told may_leave faults precheck s B p w a st gs y v ok behind hs z u) same.state (goes s B p w a stood (is_same w a k before same is) (fits_same s B p w gs y v a k before same fits))
+    module _ (s : Start) (B : List (List Record)) (p : Point) (w : World) (a : Standing) (stood : Stood means s B p w precheck gs y v) (is : IsOf w a k)
+        (fits : Fits means s B p w gs y v a (rest_of k) k.state) (handed : AreReceipts true w k) where
+      abbrev went : Went means precheck s B p w a k.state gs y v ok behind hs z u
+      went = subst (λ (st : State). Went means precheck s B p w a st gs y v ok behind hs z u) same.state (goes s B p w a stood (is_same w a k before same is) (fits_same s B p w gs y v a k before same fits))
 
-      abbrev noted : Went told may_leave faults precheck s B p w a k.state gs y v ok j hs z u
+      abbrev noted : Went means precheck s B p w a k.state gs y v ok j hs z u
       noted = record {
         to = went.to;
         batches = went.batches;
@@ -196,23 +197,23 @@ module _ {V : Type 0} (told : V → Option Disk) (may_leave : V → Disk → Typ
       by_ok true e = notes.receipts ∙ (ap (λ n. k.transcript.receipts ++ range_with_len y.records (n - y.records)) (e refl) ∙ sym numbers)
       by_ok false e = some_numbers
 
-    pub turn_goes : (ok ≡ true → upto ≡ z.records) → TurnGoes told may_leave faults precheck k gs y v ok j hs z u
+    pub turn_goes : (ok ≡ true → upto ≡ z.records) → TurnGoes means precheck k gs y v ok j hs z u
     turn_goes all s B p w a stood is fits handed = record { went = noted s B p w a stood is fits handed; receipts = by_ok s B p w a stood is fits handed ok all }
 
     -- the step was made, and memory for a receipt is refused: the client is halted
-    module _ (done : ok ≡ true) (is : List RegionState) (x : SystemState) (t : Vaulted V) (halts : HaltGoes told may_leave faults j hs z u is x t)
-        (s : Start) (B : List (List Record)) (p : Point) (w : World) (a : Standing) (stood : Stood told may_leave faults s B p w precheck gs y v) (of : IsOf w a k)
-        (fits : Fits told may_leave faults s B p w gs y v a (rest_of k) k.state) (handed : AreReceipts true w k) where
-      abbrev one : Went told may_leave faults precheck s B p w a k.state gs y v ok j hs z u
+    module _ (done : ok ≡ true) (is : List RegionState) (x : SystemState) (t : Vaulted V) (halts : HaltGoes means j hs z u is x t)
+        (s : Start) (B : List (List Record)) (p : Point) (w : World) (a : Standing) (stood : Stood means s B p w precheck gs y v) (of : IsOf w a k)
+        (fits : Fits means s B p w gs y v a (rest_of k) k.state) (handed : AreReceipts true w k) where
+      abbrev one : Went means precheck s B p w a k.state gs y v ok j hs z u
       one = noted s B p w a stood of fits handed
 
-      abbrev two : Halted told may_leave faults precheck k.state s one.batches one.to one.world one.standing j hs z u is x t
-      two = halts precheck k.state s one.batches one.to one.world one.standing one.stood one.is (subst (λ (b : Bool). Came told may_leave faults b s one.batches one.to one.world hs z u one.standing j) done one.came)
+      abbrev two : Halted means precheck k.state s one.batches one.to one.world one.standing j hs z u is x t
+      two = halts precheck k.state s one.batches one.to one.world one.standing one.stood one.is (subst (λ (b : Bool). Came means b s one.batches one.to one.world hs z u one.standing j) done one.came)
 
       some : AreReceipts false one.world j
       some = some_numbers s B p w a stood of fits handed
 
-      halted_there : Turned told may_leave faults precheck s B p w a k gs y v false j is x t
+      halted_there : Turned means precheck s B p w a k gs y v false j is x t
       halted_there = record {
         went = record {
           to = two.went.to;
@@ -229,13 +230,13 @@ module _ {V : Type 0} (told : V → Option Disk) (may_leave : V → Disk → Typ
           is = two.went.is;
           came = two.went.came;
           rows = λ e. absurd (cc);
-          others = others_then told may_leave faults k.state s B one.batches two.went.batches p one.to two.went.to gs hs is y z x v u t stood.stands.at.system one.stood.stands.at.system (course_longer p one.to one.steps one.course)
-              (still_ran told may_leave faults precheck s one.batches one.to one.world one.standing k.state hs is z x u t false j one.stood two.went) one.others two.went.others;
+          others = others_then means k.state s B one.batches two.went.batches p one.to two.went.to gs hs is y z x v u t stood.stands.at.system one.stood.stands.at.system (course_longer p one.to one.steps one.course)
+              (still_ran means precheck s one.batches one.to one.world one.standing k.state hs is z x u t false j one.stood two.went) one.others two.went.others;
         };
         receipts = (some.0, two.numbers ∙ some.1);
       }
 
-    pub halted_goes : ok ≡ true → (is : List RegionState) (x : SystemState) (t : Vaulted V) → HaltGoes told may_leave faults j hs z u is x t → TurnGoes told may_leave faults precheck k gs y v false j is x t
+    pub halted_goes : ok ≡ true → (is : List RegionState) (x : SystemState) (t : Vaulted V) → HaltGoes means j hs z u is x t → TurnGoes means precheck k gs y v false j is x t
     halted_goes done is x t halts s B p w a stood of fits handed = halted_there done is x t halts s B p w a stood of fits handed
 
   -- ---- as the code does it: the receipts stand apart during the step
@@ -258,20 +259,20 @@ module _ {V : Type 0} (told : V → Option Disk) (may_leave : V → Disk → Typ
 
   pub turned : (precheck : Bool) (k behind : Client) (t1 t2 t3 : Transcribed) (none rs : List ℕ) (gs hs : List RegionState) (y z : SystemState) (v u : Vaulted V) (ok cut : Bool) (first last upto : ℕ)
       → t1 ≡ record k.transcript { receipts = none } → rs ≡ k.transcript.receipts
-      → StepGoes told may_leave faults precheck k.state (record k { transcript = t1 }) gs y v ok behind hs z u
+      → StepGoes means precheck k.state (record k { transcript = t1 }) gs y v ok behind hs z u
       → t2 ≡ record behind.transcript { receipts = rs } → first ≡ y.records → last ≡ z.records → t3 ≡ logged t2 first upto → first ≤ upto → upto ≤ last → cut ≡ ok → (ok ≡ true → upto ≡ last)
-      → TurnGoes told may_leave faults precheck k gs y v cut (record behind { transcript = t3 }) hs z u
+      → TurnGoes means precheck k gs y v cut (record behind { transcript = t3 }) hs z u
   turned precheck k behind t1 t2 t3 none rs gs hs y z v u ok cut first last upto put taken goes back is_first is_last noted from to same_ok all =
-      subst (λ (b : Bool). TurnGoes told may_leave faults precheck k gs y v b (record behind { transcript = t3 }) hs z u) (sym same_ok)
+      subst (λ (b : Bool). TurnGoes means precheck k gs y v b (record behind { transcript = t3 }) hs z u) (sym same_ok)
       (turn_goes precheck k (record k { transcript = t1 }) behind (record behind { transcript = t3 }) gs hs y z v u ok (looks_put k t1 none put) goes (also_same behind t2 t3 rs first upto back noted)
       upto (notes_to k behind t2 t3 rs y z first last upto taken back is_first is_last noted from to) (λ e. all e ∙ is_last))
 
   pub halted : (precheck : Bool) (k behind : Client) (t1 t2 t3 : Transcribed) (none rs : List ℕ) (gs hs is : List RegionState) (y z x : SystemState) (v u t : Vaulted V) (ok cut : Bool) (first last upto : ℕ)
       → t1 ≡ record k.transcript { receipts = none } → rs ≡ k.transcript.receipts
-      → StepGoes told may_leave faults precheck k.state (record k { transcript = t1 }) gs y v ok behind hs z u
+      → StepGoes means precheck k.state (record k { transcript = t1 }) gs y v ok behind hs z u
       → t2 ≡ record behind.transcript { receipts = rs } → first ≡ y.records → last ≡ z.records → t3 ≡ logged t2 first upto → first ≤ upto → upto ≤ last → cut ≡ false → ok ≡ true
-      → HaltGoes told may_leave faults (record behind { transcript = t3 }) hs z u is x t → TurnGoes told may_leave faults precheck k gs y v cut (record behind { transcript = t3 }) is x t
+      → HaltGoes means (record behind { transcript = t3 }) hs z u is x t → TurnGoes means precheck k gs y v cut (record behind { transcript = t3 }) is x t
   halted precheck k behind t1 t2 t3 none rs gs hs is y z x v u t ok cut first last upto put taken goes back is_first is_last noted from to unsaid done halts =
-      subst (λ (b : Bool). TurnGoes told may_leave faults precheck k gs y v b (record behind { transcript = t3 }) is x t) (sym unsaid)
+      subst (λ (b : Bool). TurnGoes means precheck k gs y v b (record behind { transcript = t3 }) is x t) (sym unsaid)
       (halted_goes precheck k (record k { transcript = t1 }) behind (record behind { transcript = t3 }) gs hs y z v u ok (looks_put k t1 none put) goes (also_same behind t2 t3 rs first upto back noted)
       upto (notes_to k behind t2 t3 rs y z first last upto taken back is_first is_last noted from to) done is x t halts)

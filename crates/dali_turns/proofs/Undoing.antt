@@ -3,19 +3,19 @@ use Rattle.std.proofs.Common.{◌≡◌, ℕ, ◌+◌, Bool, true, false, List, 
 use Rattle.std.specs.Prelude.{◌==◌, if◌then◌else◌, fold}
 use Rattle.std.proofs.lemmas.List.{append_assoc}
 use Rattle.std.proofs.lemmas.List.Sums.{fold-append}
-use Rattle.dali_counts.proofs.Lists.{self}
+use Rattle.dali_runs.proofs.CountsLemmas.Lists.{self}
 use Rattle.dali_record.specs.declared.operations.Block.{Block}
 use Rattle.dali_record.specs.declared.operations.Op.{Op}
 use Rattle.dali_record.specs.declared.operations.Pending.{Pending}
 use Rattle.dali_record.specs.declared.records.Record.{Record}
 use Rattle.dali_record.specs.declared.records.Record.TheVariants.{Back}
 use Rattle.dali_record.specs.Log.{last_of, drop_last, undo_added, undo_step}
-use Rattle.dali_system.specs.State.{SystemState}
+use Rattle.dali_runs.specs.State.{SystemState}
 use Rattle.dali_calls.specs.Steps.{call_key, IsBlockOf}
 use Rattle.dali_calls.specs.Plans.{Planned, plan_next, is_back, undo_next}
 use Rattle.dali_calls.proofs.Wholes.{back_next}
 use Rattle.dali_calls.proofs.Following.{drop_append}
-use Rattle.dali_stepwise.specs.Opened.{IsLogged, record_on}
+use Rattle.dali_calls.specs.Stepwise.Opened.{IsLogged, record_on}
 use Rattle.dali_transcripts.specs.World.{Deed, Logs, logged_by}
 use Rattle.dali_transcripts.specs.Moves.{Receipt}
 use Rattle.dali_transcripts.specs.Causes.{undos_by, undos_behind}

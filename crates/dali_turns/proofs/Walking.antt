@@ -4,34 +4,35 @@ use Rattle.std.specs.Prelude.{◌==◌, IsSomeAnd, slice_get}
 use Rattle.std.specs.List.{list_all}
 use Rattle.std.proofs.lemmas.List.{append-nil, append_assoc, map-append}
 use Rattle.std.proofs.lemmas.Bool.{and_from}
-use Rattle.dali_counts.proofs.Lists.{equal}
+use Rattle.dali_runs.proofs.CountsLemmas.Lists.{equal}
 use Rattle.dali_record.specs.declared.records.Record.{Record}
 use Rattle.dali_record.specs.declared.records.Record.TheVariants.{Forward, Back, Solo}
 use Rattle.dali_region.specs.State.{RegionState}
 use Rattle.dali_store.specs.Store.{Files as Disk}
-use Rattle.dali_system.specs.Run.{Bases}
-use Rattle.dali_system.specs.State.{SystemState, VaultState, CoreState}
-use Rattle.dali_system.specs.Regions.{RegionStep, Latch, NoteReads, Update, TakeBack, Poke, Check, Die, Clean}
-use Rattle.dali_system.specs.Passes.{Audits as PassAudits}
-use Rattle.dali_system.specs.Flushes.{frame_of}
-use Rattle.dali_system.specs.Courses.{Step, Operates, TakesBack, Frees, Answers, Commits, Ends, AuditBegins, AuditEnds, Locks, OnRegion, Passes, IsStep, AuditsBy}
-use Rattle.dali_parts.proofs.Vaults.{step_has_vault}
+use Rattle.dali_store.specs.declared.store.Store.{Ghosts}
+use Rattle.dali_runs.specs.Run.{Bases}
+use Rattle.dali_runs.specs.State.{SystemState, VaultState, CoreState}
+use Rattle.dali_runs.specs.Regions.{RegionStep, Latch, NoteReads, Update, TakeBack, Poke, Check, Die, Clean}
+use Rattle.dali_runs.specs.Passes.{Audits as PassAudits}
+use Rattle.dali_runs.specs.Flushes.{frame_of}
+use Rattle.dali_runs.specs.Courses.{Step, Operates, TakesBack, Frees, Answers, Commits, Ends, AuditBegins, AuditEnds, Locks, OnRegion, Passes, IsStep, AuditsBy}
+use Rattle.dali_runs.proofs.PartsLemmas.Vaults.{step_has_vault}
 use Rattle.dali_crash.specs.Checkpoints.{StoreStep, Does, Point, IsPointStep, IsPointCourse, is_of_checkpoint, copies_after}
 use Rattle.dali_crash.specs.Traces.{Start, bases_of}
-use Rattle.dali_vault.specs.Vaulted.{Vaulted}
+use Rattle.dali_core.specs.Vault.Vaulted.{Vaulted}
 use Rattle.dali_calls.specs.Operating.{IsOwn}
 use Rattle.dali_calls.specs.Others.{is_apart}
-use Rattle.dali_single.specs.Single.{IsOwnStep, Leads, is_end}
-use Rattle.dali_stepwise.proofs.Waiting.{own_apart}
-use Rattle.dali_steps.specs.Courses.{is_quiet, calls_none}
-use Rattle.dali_steps.proofs.Courses.{came_same, vault_same, both_true}
-use Rattle.dali_steps.proofs.Steps.{quiet_goes}
+use Rattle.dali_calls.specs.Single.Single.{IsOwnStep, Leads, is_end}
+use Rattle.dali_calls.proofs.StepwiseLemmas.Waiting.{own_apart}
+use Rattle.dali_core.specs.Steps.Courses.{is_quiet, calls_none}
+use Rattle.dali_core.proofs.StepsLemmas.Courses.{came_same, vault_same, both_true}
+use Rattle.dali_core.proofs.StepsLemmas.Steps.{quiet_goes}
 use Rattle.dali_clean.specs.Cleaned.{AreDead}
-use Rattle.dali_whole.specs.Cores.{IsCoreAt, HoldsPlaces}
+use Rattle.dali_core.specs.Cores.{IsCoreAt, HoldsPlaces}
 use Rattle.dali_transcripts.specs.World.{Deed, Logs, World}
-use Rattle.dali_deeds.specs.Deeds.{AreOf}
-use Rattle.dali_deeds.specs.Tells.{after, AreRightThen}
-use Rattle.dali_deeds.specs.Laws.{AreOfCourse}
+use Rattle.dali_transcripts.specs.Telling.Deeds.{AreOf}
+use Rattle.dali_transcripts.specs.Telling.Tells.{after, AreRightThen}
+use Rattle.dali_transcripts.specs.Telling.Laws.{AreOfCourse}
 use Rattle.dali_turns.specs.declared.client.State.{State}
 use Rattle.dali_turns.specs.Stood.{IsQuiet, Stood}
 use Rattle.dali_turns.specs.Fits.{Owns}
@@ -135,7 +136,7 @@ records_right bases before w c p at stops (Ends t) K e step not_end = absurd (cc
 records_right bases before w c p at stops x K e step not_end = tt
 
 -- ---- lists of them
-module _ {V : Type 0} (told : V → Option Disk) (may_leave : V → Disk → Type 0) (faults : V → ℕ) where
+module _ {V : Type 0} (means : Ghosts V) where
   -- they lead from the point p to where log and core are these, and are told by the records that they log
   pub record Led (t : ℕ) (s : Start) (B : List (List Record)) (p : Point) (w : World) (c : ℕ) (gs : List RegionState) (y : SystemState) (v : Vaulted V) (M : List Record) (d : CoreState) : Type 0 where
     pub own : List Record
@@ -146,13 +147,13 @@ module _ {V : Type 0} (told : V → Option Disk) (may_leave : V → Disk → Typ
     pub steps : List StoreStep
     pub course : IsPointCourse p steps to
     pub are : AreOfCourse w c p steps to (map Logs own)
-    pub at : IsCoreAt told may_leave faults s B to d.regions d.system v
-    pub image : ImageStays told may_leave faults s B p gs y v B to d.regions d.system v
+    pub at : IsCoreAt means s B to d.regions d.system v
+    pub image : ImageStays means s B p gs y v B to d.regions d.system v
     pub beside : (u : ℕ) → (t == u) ≡ false → list_all (is_beside u) steps ≡ true
     pub out : (b : ℕ) → list_all (is_out_of b) steps ≡ true
 
   module _ (precheck : Bool) (t c : ℕ) (s : Start) (B : List (List Record)) (v : Vaulted V) where
-    module _ (x : Step) (p : Point) (w : World) (gs : List RegionState) (y : SystemState) (K : List Record) (e : CoreState) (here : IsCoreAt told may_leave faults s B p gs y v) (same : w.precheck ≡ precheck)
+    module _ (x : Step) (p : Point) (w : World) (gs : List RegionState) (y : SystemState) (K : List Record) (e : CoreState) (here : IsCoreAt means s B p gs y v) (same : w.precheck ≡ precheck)
         (step : IsStep p.log p.core x K e) (own : IsOwnStep precheck t p.core x) (not_end : is_end x ≡ false)
         (at : At (bases_of s) s.log w p) (stops : p.core.vault.stopped ≡ true → is_some p.core.system.stop ≡ true) where
       abbrev these : List Deed
@@ -167,11 +168,11 @@ module _ {V : Type 0} (told : V → Option Disk) (may_leave : V → Disk → Typ
       point_step : IsPointStep p (Does x) (point_behind p x K e)
       point_step = (calm.0, (step, audits_same precheck t p.audits p.log p.core x own), refl)
 
-      at_behind : IsCoreAt told may_leave faults s B (point_behind p x K e) e.regions e.system v
+      at_behind : IsCoreAt means s B (point_behind p x K e) e.regions e.system v
       at_behind = record {
         regions = refl;
         system = refl;
-        vault = quiet_goes told may_leave faults s B p (point_behind p x K e) (Does x) v here.vault point_step refl (came_same p.log p.core x calm.1)
+        vault = quiet_goes means s B p (point_behind p x K e) (Does x) v here.vault point_step refl (came_same p.log p.core x calm.1)
             (vault_same (frame_of p.log p.core) p.core.vault e.vault x calm.1 (step_has_vault p.log K p.core e x step));
         none_in_hand = λ up. here.none_in_hand up ∙ (ap (λ (z : SystemState). z.taken) (sym here.system) ∙ sym is.taken);
       }
@@ -196,13 +197,13 @@ module _ {V : Type 0} (told : V → Option Disk) (may_leave : V → Disk → Typ
         course = (point_behind p x K e, point_step, rest.course);
         are = (point_behind p x K e, these, map Logs rest.own, point_step, own_told precheck t x w c p same own not_end, right_there, rest.are, map-append Logs (logged_of p.core.system x) rest.own);
         at = rest.at;
-        image = image_then told may_leave faults s B B B p (point_behind p x K e) rest.to gs e.regions d.regions y e.system d.system v v v (λ r. r)
-            (step_image told may_leave faults s B p (point_behind p x K e) x gs y v is.quiet point_step is.taken here.system) rest.image;
+        image = image_then means s B B B p (point_behind p x K e) rest.to gs e.regions d.regions y e.system d.system v v v (λ r. r)
+            (step_image means s B p (point_behind p x K e) x gs y v is.quiet point_step is.taken here.system) rest.image;
         beside = λ u other. and_from (is_apart u x) (list_all (is_beside u) rest.steps) (own_apart precheck u t p.core x other own) (rest.beside u other);
         out = λ b. and_from (not (is_in_audit b x)) (list_all (is_out_of b) rest.steps) (ap not (is.out b)) (rest.out b);
       }
 
-    pub led : (xs : List Step) (p : Point) (w : World) (gs : List RegionState) (y : SystemState) (M : List Record) (d : CoreState) → IsCoreAt told may_leave faults s B p gs y v → w.precheck ≡ precheck
+    pub led : (xs : List Step) (p : Point) (w : World) (gs : List RegionState) (y : SystemState) (M : List Record) (d : CoreState) → IsCoreAt means s B p gs y v → w.precheck ≡ precheck
         → At (bases_of s) s.log w p → (p.core.vault.stopped ≡ true → is_some p.core.system.stop ≡ true) → Leads precheck t p.log p.core xs M d → Led t s B p w c gs y v M d
     led [] p w gs y M d here same at stops leads = record {
       own = [];
@@ -219,9 +220,9 @@ module _ {V : Type 0} (told : V → Option Disk) (may_leave : V → Disk → Typ
         vault = here.vault;
         none_in_hand = λ up. here.none_in_hand up ∙ ap (λ (z : SystemState). z.taken) (sym here.system ∙ ap (λ (k : CoreState). k.system) leads.1);
       };
-      image = subst (λ (k : CoreState). ImageStays told may_leave faults s B p gs y v B p k.regions k.system v) leads.1
-          (subst (λ (rs : List RegionState). ImageStays told may_leave faults s B p gs y v B p rs p.core.system v) (sym here.regions)
-          (subst (λ (z : SystemState). ImageStays told may_leave faults s B p gs y v B p gs z v) (sym here.system) (image_still told may_leave faults s B p gs y v)));
+      image = subst (λ (k : CoreState). ImageStays means s B p gs y v B p k.regions k.system v) leads.1
+          (subst (λ (rs : List RegionState). ImageStays means s B p gs y v B p rs p.core.system v) (sym here.regions)
+          (subst (λ (z : SystemState). ImageStays means s B p gs y v B p gs z v) (sym here.system) (image_still means s B p gs y v)));
       beside = λ u other. refl;
       out = λ b. refl;
     }
@@ -232,10 +233,10 @@ module _ {V : Type 0} (told : V → Option Disk) (may_leave : V → Disk → Typ
 
   -- ---- a step of the client that ends there
   module _ (precheck : Bool) (t : ℕ) (state : State) (owns : (n : ℕ) → t ≡ n → Owns state n) (s : Start) (B : List (List Record)) (p : Point) (w : World) (c : ℕ) (gs : List RegionState) (y : SystemState) (v : Vaulted V)
-      (stood : Stood told may_leave faults s B p w precheck gs y v) where
-    pub did_led : (ds : List Deed) (M : List Record) (d : CoreState) → (l : Led t s B p w c gs y v M d) → map Logs l.own ≡ ds → AreDead d.regions → IfSome (told v.store) (HoldsPlaces d.regions)
-        → IsQuiet d.system → (is_some y.stop ≡ true → is_some d.system.stop ≡ true) → Did told may_leave faults precheck s B p w c state gs y v ds B l.to d.regions d.system v
+      (stood : Stood means s B p w precheck gs y v) where
+    pub did_led : (ds : List Deed) (M : List Record) (d : CoreState) → (l : Led t s B p w c gs y v M d) → map Logs l.own ≡ ds → AreDead d.regions → IfSome (means.told v.store) (HoldsPlaces d.regions)
+        → IsQuiet d.system → (is_some y.stop ≡ true → is_some d.system.stop ≡ true) → Did means precheck s B p w c state gs y v ds B l.to d.regions d.system v
     did_led ds M d l same dead places quiet stop =
-        did_course told may_leave faults precheck s B p w gs y v stood c state l.steps ds B l.to d.regions d.system v l.course (subst (λ es. AreOfCourse w c p l.steps l.to es) same l.are) l.at dead
+        did_course means precheck s B p w gs y v stood c state l.steps ds B l.to d.regions d.system v l.course (subst (λ es. AreOfCourse w c p l.steps l.to es) same l.are) l.at dead
         places quiet (λ e. stop (stood.stops e))
         (λ u lives other. l.beside u (other_of t u state owns other)) (λ b other. l.out b) (λ flag other. l.image)

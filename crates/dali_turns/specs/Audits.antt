@@ -4,7 +4,7 @@
 use Rattle.std.specs.Prelude.{◌≡◌, ℕ, ◌<◌, ◌≤◌, ◌^◌, false, true, List, [], ◌∷◌, Some, length, slice_get}
 use Rattle.dali_geometry.specs.Places.{regions}
 use Rattle.dali_record.specs.declared.records.Record.TheVariants.{AuditBegin}
-use Rattle.dali_system.specs.Audits.{IsAuditing}
+use Rattle.dali_runs.specs.Audits.{IsAuditing}
 use Rattle.dali_crash.specs.Checkpoints.{Point}
 use Rattle.dali_audit.specs.declared.audit.Finding.{Finding}
 use Rattle.dali_audit.specs.declared.audit.Finding.TheVariants.{Waiting}
@@ -14,7 +14,7 @@ use Rattle.dali_transcripts.specs.Words.{Act, Audits}
 use Rattle.dali_transcripts.specs.World.{World, Logs}
 use Rattle.dali_transcripts.specs.Moves.{Outside, at}
 use Rattle.dali_transcripts.specs.Rounds.{Standing, IsPlaced}
-use Rattle.dali_deeds.specs.Deeds.{BeganHere}
+use Rattle.dali_transcripts.specs.Telling.Deeds.{BeganHere}
 
 pub record IsPassing (p : Point) (w : World) (audit : Audited) (next : ℕ) : Type 0 where
   pub began : BeganHere w audit.begin

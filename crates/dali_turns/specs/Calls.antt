@@ -12,18 +12,18 @@ use Rattle.dali_record.specs.declared.records.Call.{Call}
 use Rattle.dali_locks.specs.declared.mode.LockAnswer.TheVariants.{Wait}
 use Rattle.dali_locks.specs.Locks.{IsAnswer}
 use Rattle.dali_region.specs.State.{RegionState}
-use Rattle.dali_system.specs.State.{SystemState, state_of}
-use Rattle.dali_core.specs.declared.error.SystemError.{SystemError}
-use Rattle.dali_core.specs.declared.error.SystemError.TheVariants.{Stopped, LogFull, OutOfMemory}
-use Rattle.dali_core.specs.declared.want.Want.TheVariants.{Region}
+use Rattle.dali_runs.specs.State.{SystemState, state_of}
+use Rattle.dali_system.specs.declared.error.SystemError.{SystemError}
+use Rattle.dali_system.specs.declared.error.SystemError.TheVariants.{Stopped, LogFull, OutOfMemory}
+use Rattle.dali_system.specs.declared.want.Want.TheVariants.{Region}
 use Rattle.dali_calls.specs.Steps.{call_key}
 use Rattle.dali_calls.specs.Plans.{IsWhole, Planned, refused, mode_of, want_of}
-use Rattle.dali_single.specs.Stands.{IsAtRest}
+use Rattle.dali_calls.specs.Single.Stands.{IsAtRest}
 use Rattle.dali_transcripts.specs.World.{is_dead_in}
-use Rattle.dali_clients.specs.declared.command.Command.{Command}
-use Rattle.dali_clients.specs.declared.command.Command.TheVariants.{Call as CallCommand}
-use Rattle.dali_clients.specs.declared.line.Why.{Why}
-use Rattle.dali_clients.specs.declared.line.Why.TheVariants.{Stopped as IsStopped, LogFull as IsFull}
+use Rattle.dali_transcripts.specs.declared.clients.command.Command.{Command}
+use Rattle.dali_transcripts.specs.declared.clients.command.Command.TheVariants.{Call as CallCommand}
+use Rattle.dali_transcripts.specs.declared.clients.line.Why.{Why}
+use Rattle.dali_transcripts.specs.declared.clients.line.Why.TheVariants.{Stopped as IsStopped, LogFull as IsFull}
 use Rattle.dali_turns.specs.declared.client.Client.{Client}
 use Rattle.dali_turns.specs.declared.client.State.TheVariants.{Within, TakingBack}
 use Rattle.dali_turns.specs.declared.client.Transaction.{Transaction}

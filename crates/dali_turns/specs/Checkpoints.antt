@@ -7,10 +7,11 @@ use Rattle.dali_record.specs.declared.records.Record.{Record}
 use Rattle.dali_record.specs.declared.records.Record.TheVariants.{AuditBegin}
 use Rattle.dali_region.specs.State.{RegionState}
 use Rattle.dali_store.specs.Store.{Files as Disk}
-use Rattle.dali_system.specs.State.{SystemState}
+use Rattle.dali_store.specs.declared.store.Store.{Ghosts}
+use Rattle.dali_runs.specs.State.{SystemState}
 use Rattle.dali_crash.specs.Checkpoints.{Head, Point}
 use Rattle.dali_crash.specs.Traces.{Start}
-use Rattle.dali_vault.specs.Vaulted.{Vaulted}
+use Rattle.dali_core.specs.Vault.Vaulted.{Vaulted}
 use Rattle.dali_audit.specs.Findings.{Audited}
 use Rattle.dali_checkpoint.specs.Kept.{Checkpointed}
 use Rattle.dali_checkpoint.specs.Running.{PassesTell, IsCopying, IsSettled}
@@ -30,13 +31,13 @@ pub record IsMaking (p : Point) (w : World) (a : Standing) (rest : List Act) (ow
   pub flag : p.core.system.checking ≡ true
   pub under : under_way w.happened ≡ Some a.client
 
-module _ {V : Type 0} (told : V → Option Disk) (may_leave : V → Disk → Type 0) (faults : V → ℕ) where
+module _ {V : Type 0} (means : Ghosts V) where
   -- what it knows of its image holds while the vault runs; once it has stopped the checkpoint is given up
   pub record FitsCopying (s : Start) (B : List (List Record)) (p : Point) (w : World) (gs : List RegionState) (y : SystemState) (v : Vaulted V) (a : Standing) (rest : List Act)
       (c : Checkpointed) (next : ℕ) : Type 0 where
     pub making : IsMaking p w a rest []
     pub head : Head
-    pub copying : v.stopped ≡ false → IsCopying told may_leave faults s B p gs y v c head
+    pub copying : v.stopped ≡ false → IsCopying means s B p gs y v c head
     pub copied : c.copied ≡ next
     pub upto : next ≤ length gs
     pub sound : c.faulted ≡ false
@@ -46,7 +47,7 @@ module _ {V : Type 0} (told : V → Option Disk) (may_leave : V → Disk → Typ
     pub making : IsMaking p w a rest ((audit.begin, Logs AuditBegin) ∷ [])
     pub head : Head
     pub number : ℕ
-    pub settled : v.stopped ≡ false → IsSettled told may_leave faults s B p gs y v c head number
+    pub settled : v.stopped ≡ false → IsSettled means s B p gs y v c head number
     pub passes : v.stopped ≡ false → PassesTell p audit.begin
     pub settled_at : c.settled ≡ Some number
     pub behind : number ≤ audit.begin

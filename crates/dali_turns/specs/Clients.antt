@@ -8,12 +8,12 @@
 --     left_behind command      where it stands behind a command that was left out
 --     is_over state none       it is done, where it has no command left, or has died
 use Rattle.std.specs.Prelude.{◌≡◌, ℕ, ◌+◌, ◌-◌, ◌^◌, min, Bool, true, false, if◌then◌else◌, [], ◌∷◌, Option, Some, drop, slice_get}
-use Rattle.dali_clients.specs.declared.command.Command.{Command}
-use Rattle.dali_clients.specs.declared.line.Line.{Line}
-use Rattle.dali_clients.specs.declared.line.Line.TheVariants.{Refused}
-use Rattle.dali_clients.specs.declared.line.Why.{Why}
-use Rattle.dali_clients.specs.Said.{said}
-use Rattle.dali_clients.specs.Told.{act_of}
+use Rattle.dali_transcripts.specs.declared.clients.command.Command.{Command}
+use Rattle.dali_transcripts.specs.declared.clients.line.Line.{Line}
+use Rattle.dali_transcripts.specs.declared.clients.line.Line.TheVariants.{Refused}
+use Rattle.dali_transcripts.specs.declared.clients.line.Why.{Why}
+use Rattle.dali_transcripts.specs.Clients.Said.{said}
+use Rattle.dali_transcripts.specs.Clients.Told.{act_of}
 use Rattle.dali_transcripts.specs.Words.{closes}
 use Rattle.dali_turns.specs.declared.client.Client.{Client}
 use Rattle.dali_turns.specs.declared.client.State.{State}

@@ -5,16 +5,16 @@ use Rattle.std.specs.Prelude.{◌≡◌, ◌⊎◌, ◌<◌, ℕ, ◌+◌, Bool,
 use Rattle.dali_record.specs.declared.operations.Pending.{Pending}
 use Rattle.dali_record.specs.declared.records.Record.TheVariants.{Commit}
 use Rattle.dali_att.specs.declared.state.State.TheVariants.{Committed}
-use Rattle.dali_system.specs.State.{SystemState, state_of}
-use Rattle.dali_facts.specs.Ends.{IsEnding}
+use Rattle.dali_runs.specs.State.{SystemState, state_of}
+use Rattle.dali_runs.specs.Facts.Ends.{IsEnding}
 use Rattle.dali_crash.specs.Checkpoints.{Point}
-use Rattle.dali_vault.specs.Vaulted.{Vaulted}
+use Rattle.dali_core.specs.Vault.Vaulted.{Vaulted}
 use Rattle.dali_transcripts.specs.Words.{Act, Commits}
 use Rattle.dali_transcripts.specs.World.{World, Logs, log_of, IsFlushed}
 use Rattle.dali_transcripts.specs.Moves.{Receipt, Within, at}
 use Rattle.dali_transcripts.specs.Causes.{AreBehind}
 use Rattle.dali_transcripts.specs.Rounds.{Standing, IsPlaced}
-use Rattle.dali_clients.specs.Told.{act_of}
+use Rattle.dali_transcripts.specs.Clients.Told.{act_of}
 use Rattle.dali_turns.specs.declared.client.Transaction.{Transaction}
 use Rattle.dali_turns.specs.declared.client.State.{State}
 use Rattle.dali_turns.specs.declared.client.State.TheVariants.{Committing}

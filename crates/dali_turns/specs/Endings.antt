@@ -5,10 +5,10 @@
 use Rattle.std.specs.Prelude.{◌≡◌, ◌⊎◌, ℕ, Option, Some, None, Result, Ok, Err}
 use Rattle.dali_checkpoint.specs.declared.error.CheckpointError.{CheckpointError}
 use Rattle.dali_checkpoint.specs.declared.error.CheckpointError.TheVariants.{Failed, InProgress, Stopped, LogFull, Fault, OutOfMemory}
-use Rattle.dali_clients.specs.declared.command.Command.TheVariants.{Checkpoint}
-use Rattle.dali_clients.specs.declared.line.Line.{Line}
-use Rattle.dali_clients.specs.declared.line.Line.TheVariants.{Checkpointed, CheckpointFailed, Refused}
-use Rattle.dali_clients.specs.declared.line.Why.TheVariants.{Stopped as IsStopped, LogFull as IsFull, StoreStopped, InProgress as IsInProgress}
+use Rattle.dali_transcripts.specs.declared.clients.command.Command.TheVariants.{Checkpoint}
+use Rattle.dali_transcripts.specs.declared.clients.line.Line.{Line}
+use Rattle.dali_transcripts.specs.declared.clients.line.Line.TheVariants.{Checkpointed, CheckpointFailed, Refused}
+use Rattle.dali_transcripts.specs.declared.clients.line.Why.TheVariants.{Stopped as IsStopped, LogFull as IsFull, StoreStopped, InProgress as IsInProgress}
 use Rattle.dali_turns.specs.declared.client.Client.{Client}
 use Rattle.dali_turns.specs.declared.client.State.TheVariants.{Outside}
 use Rattle.dali_turns.specs.Clients.{Passes, Finishes}

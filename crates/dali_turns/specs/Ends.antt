@@ -12,34 +12,35 @@ use Rattle.dali_record.specs.declared.records.Record.TheVariants.{Ended}
 use Rattle.dali_region.specs.State.{RegionState}
 use Rattle.dali_att.specs.declared.state.State.TheVariants.{Dead}
 use Rattle.dali_store.specs.Store.{Files as Disk}
-use Rattle.dali_system.specs.declared.causes.Cause.{Cause}
-use Rattle.dali_system.specs.State.{SystemState, state_of}
-use Rattle.dali_vault.specs.Vaulted.{Vaulted}
+use Rattle.dali_store.specs.declared.store.Store.{Ghosts}
+use Rattle.dali_runs.specs.declared.causes.Cause.{Cause}
+use Rattle.dali_runs.specs.State.{SystemState, state_of}
+use Rattle.dali_core.specs.Vault.Vaulted.{Vaulted}
 use Rattle.dali_calls.specs.Others.{IsGone}
-use Rattle.dali_single.specs.Ending.{IsBackOf}
+use Rattle.dali_calls.specs.Single.Ending.{IsBackOf}
 use Rattle.dali_clean.specs.Cleaned.{AreDead, Ends, GivesBack, MayClean, IsDead}
 use Rattle.dali_clean.specs.Others.{OthersStay}
-use Rattle.dali_ends.specs.Ended.{Comes}
-use Rattle.dali_clients.specs.declared.command.Command.{Command}
-use Rattle.dali_clients.specs.declared.command.Command.TheVariants.{Abort}
-use Rattle.dali_clients.specs.declared.line.Line.{Line}
-use Rattle.dali_clients.specs.declared.line.Line.TheVariants.{AbortOk, Aborted, LeftOpen, Refused}
-use Rattle.dali_clients.specs.declared.line.Why.TheVariants.{Stopped}
-use Rattle.dali_clients.specs.Said.{said}
+use Rattle.dali_transactions.specs.Ended.{Comes}
+use Rattle.dali_transcripts.specs.declared.clients.command.Command.{Command}
+use Rattle.dali_transcripts.specs.declared.clients.command.Command.TheVariants.{Abort}
+use Rattle.dali_transcripts.specs.declared.clients.line.Line.{Line}
+use Rattle.dali_transcripts.specs.declared.clients.line.Line.TheVariants.{AbortOk, Aborted, LeftOpen, Refused}
+use Rattle.dali_transcripts.specs.declared.clients.line.Why.TheVariants.{Stopped}
+use Rattle.dali_transcripts.specs.Clients.Said.{said}
 use Rattle.dali_turns.specs.declared.client.Client.{Client}
 use Rattle.dali_turns.specs.declared.client.State.{State}
 use Rattle.dali_turns.specs.declared.client.State.TheVariants.{Within}
 use Rattle.dali_turns.specs.declared.client.Transaction.{Transaction}
 use Rattle.dali_turns.specs.Clients.{Passes, RefusesCall, Stays}
 
-module _ {V : Type 0} (told : V → Option Disk) (may_leave : V → Disk → Type 0) (faults : V → ℕ) where
+module _ {V : Type 0} (means : Ghosts V) where
   pub record IsTakenBack (t : ℕ) (gs : List RegionState) (y : SystemState) (v : Vaulted V) (hs : List RegionState) (z : SystemState) : Type 0 where
-    pub comes : Comes told may_leave faults t (IsBackOf t) (Ended t ∷ []) gs y v hs z
+    pub comes : Comes means t (IsBackOf t) (Ended t ∷ []) gs y v hs z
     pub gone : IsGone z t
     pub others : OthersStay gs y t hs z
 
   pub record IsHalfBack (t : ℕ) (gs : List RegionState) (y : SystemState) (v : Vaulted V) (hs : List RegionState) (z : SystemState) : Type 0 where
-    pub comes : Comes told may_leave faults t (IsBackOf t) [] gs y v hs z
+    pub comes : Comes means t (IsBackOf t) [] gs y v hs z
     pub lives : state_of z t ≡ state_of y t
     pub others : OthersStay gs y t hs z
 

@@ -12,17 +12,18 @@ use Rattle.std.specs.Prelude.{◌≡◌, ◌⊎◌, ℕ, ◌==◌, true, false, 
 use Rattle.dali_record.specs.declared.records.Record.{Record}
 use Rattle.dali_region.specs.State.{RegionState}
 use Rattle.dali_store.specs.Store.{Files as Disk}
+use Rattle.dali_store.specs.declared.store.Store.{Ghosts}
 use Rattle.dali_locks.specs.declared.mode.Mode.{Mode}
-use Rattle.dali_system.specs.State.{SystemState, state_of, lock_of}
+use Rattle.dali_runs.specs.State.{SystemState, state_of, lock_of}
 use Rattle.dali_crash.specs.Checkpoints.{Point}
 use Rattle.dali_crash.specs.Traces.{Start}
-use Rattle.dali_vault.specs.Vaulted.{Vaulted}
-use Rattle.dali_rounds.specs.Went.{is_open}
+use Rattle.dali_core.specs.Vault.Vaulted.{Vaulted}
+use Rattle.dali_transactions.specs.Beside.Went.{is_open}
 use Rattle.dali_transcripts.specs.Words.{Act, Said}
 use Rattle.dali_transcripts.specs.World.{World, HasGot}
 use Rattle.dali_transcripts.specs.Moves.{Place, Within as IsWithin}
 use Rattle.dali_transcripts.specs.Rounds.{Standing, Stands}
-use Rattle.dali_clients.specs.Told.{act_of, said_of}
+use Rattle.dali_transcripts.specs.Clients.Told.{act_of, said_of}
 use Rattle.dali_turns.specs.declared.client.Client.{Client}
 use Rattle.dali_turns.specs.declared.client.State.{State}
 use Rattle.dali_turns.specs.declared.client.State.TheVariants.{Outside, LeftOut, Within, Calling, TakingBack, Committing, Waiting, Auditing, Copying, Certifying, Gone}
@@ -75,7 +76,7 @@ Makes (Copying c next) = Unit {0}
 Makes (Certifying c audit next) = Unit {0}
 Makes state = ⊥
 
-module _ {V : Type 0} (told : V → Option Disk) (may_leave : V → Disk → Type 0) (faults : V → ℕ) where
+module _ {V : Type 0} (means : Ghosts V) where
   abbrev pub Fits : Start → List (List Record) → Point → World → List RegionState → SystemState → Vaulted V → Standing → List Act → State → Type 0
   Fits s B p w gs y v a rest Outside = FitsOutside y a rest
   Fits s B p w gs y v a rest LeftOut = FitsLeftOut y a rest
@@ -85,6 +86,6 @@ module _ {V : Type 0} (told : V → Option Disk) (may_leave : V → Disk → Typ
   Fits s B p w gs y v a rest (Committing x number removals next) = FitsCommitting p w a rest x number removals.items next
   Fits s B p w gs y v a rest (Waiting tries holder) = FitsWaiting w y a rest tries holder
   Fits s B p w gs y v a rest (Auditing audit next) = FitsAuditing p w a rest audit next
-  Fits s B p w gs y v a rest (Copying c next) = FitsCopying told may_leave faults s B p w gs y v a rest c next
-  Fits s B p w gs y v a rest (Certifying c audit next) = FitsCertifying told may_leave faults s B p w gs y v a rest c audit next
+  Fits s B p w gs y v a rest (Copying c next) = FitsCopying means s B p w gs y v a rest c next
+  Fits s B p w gs y v a rest (Certifying c audit next) = FitsCertifying means s B p w gs y v a rest c audit next
   Fits s B p w gs y v a rest Gone = FitsGone a

@@ -13,13 +13,14 @@ use Rattle.dali_record.specs.declared.records.Record.{Record}
 use Rattle.dali_record.specs.Files.{Files}
 use Rattle.dali_region.specs.State.{RegionState}
 use Rattle.dali_store.specs.Store.{Files as Disk}
-use Rattle.dali_system.specs.State.{SystemState, log_after}
+use Rattle.dali_store.specs.declared.store.Store.{Ghosts}
+use Rattle.dali_runs.specs.State.{SystemState, log_after}
 use Rattle.dali_crash.specs.Checkpoints.{Point, StoreStep, IsPointCourse}
 use Rattle.dali_crash.specs.Traces.{Start}
-use Rattle.dali_traces.specs.Disks.{Spells}
-use Rattle.dali_traces.specs.Bridges.{LeavesRightAt}
-use Rattle.dali_vault.specs.Vaulted.{Vaulted}
-use Rattle.dali_whole.specs.Moments.{Within}
+use Rattle.dali_crash.specs.Disks.Disks.{Spells}
+use Rattle.dali_crash.specs.Disks.Bridges.{LeavesRightAt}
+use Rattle.dali_core.specs.Vault.Vaulted.{Vaulted}
+use Rattle.dali_core.specs.Moments.{Within}
 use Rattle.dali_transcripts.specs.World.{World}
 use Rattle.dali_transcripts.specs.Rounds.{Standing}
 use Rattle.dali_turns.specs.declared.client.Client.{Client}
@@ -63,20 +64,20 @@ LeavesUpTo s p gs z c = (F : Files) × Spells c F × IsRightUpTo s p gs z F
 abbrev pub LeavesHere : Start → Point → List RegionState → Disk → Type 0
 LeavesHere s p gs c = (F : Files) × Spells c F × IsRightIn s p gs F
 
-module _ {V : Type 0} (told : V → Option Disk) (may_leave : V → Disk → Type 0) (faults : V → ℕ) (moment : V → ℕ) (left_since : V → ℕ → Disk → Type 0) where
+module _ {V : Type 0} (means : Ghosts V) where
   abbrev pub StepLeavesRight : State → Client → List RegionState → SystemState → Vaulted V → SystemState → Vaulted V → Type 0
   StepLeavesRight state k gs y v z u =
       (precheck : Bool) (s : Start) (B : List (List Record)) (p : Point) (w : World) (a : Standing)
-      → Stood told may_leave faults s B p w precheck gs y v → IsOf w a k → Fits told may_leave faults s B p w gs y v a (rest_of k) state
-      → Within told moment left_since v u (LeavesInStep s p gs z)
+      → Stood means s B p w precheck gs y v → IsOf w a k → Fits means s B p w gs y v a (rest_of k) state
+      → Within means.told means.moment means.left_since v u (LeavesInStep s p gs z)
 
   abbrev pub TurnLeavesRight : Bool → Client → List RegionState → SystemState → Vaulted V → SystemState → Vaulted V → Type 0
   TurnLeavesRight precheck k gs y v z u =
       (s : Start) (B : List (List Record)) (p : Point) (w : World) (a : Standing)
-      → Stood told may_leave faults s B p w precheck gs y v → IsOf w a k → Fits told may_leave faults s B p w gs y v a (rest_of k) k.state
-      → Within told moment left_since v u (LeavesUpTo s p gs z)
+      → Stood means s B p w precheck gs y v → IsOf w a k → Fits means s B p w gs y v a (rest_of k) k.state
+      → Within means.told means.moment means.left_since v u (LeavesUpTo s p gs z)
 
   abbrev pub HaltLeavesRight : List RegionState → SystemState → Vaulted V → Vaulted V → Type 0
   HaltLeavesRight gs y v u =
       (precheck : Bool) (s : Start) (B : List (List Record)) (p : Point) (w : World)
-      → Stood told may_leave faults s B p w precheck gs y v → Within told moment left_since v u (LeavesHere s p gs)
+      → Stood means s B p w precheck gs y v → Within means.told means.moment means.left_since v u (LeavesHere s p gs)

@@ -7,7 +7,7 @@
 --     BeginsFrom y tries state     a transaction that was tried so often begins there: the first time, or again where the holder of the last try has
 --                              gone, or where the engine is stopped and nobody ends any more
 use Rattle.std.specs.Prelude.{◌≡◌, ◌⊎◌, ℕ, ◌<◌, Bool, true, false, List, [], ◌∷◌, None, IsSome}
-use Rattle.dali_system.specs.State.{SystemState, state_of}
+use Rattle.dali_runs.specs.State.{SystemState, state_of}
 use Rattle.dali_transcripts.specs.Words.{Act, Begins}
 use Rattle.dali_transcripts.specs.World.{World, is_dead_in}
 use Rattle.dali_transcripts.specs.Moves.{Outside, Again, LeftOut, Gone, at}

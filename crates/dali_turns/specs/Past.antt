@@ -2,7 +2,7 @@
 --     IsPast state gs y        it is past all of them, if it is in an audit or copies
 use Rattle.std.specs.Prelude.{◌≡◌, ◌≤◌, List, None, length}
 use Rattle.dali_region.specs.State.{RegionState}
-use Rattle.dali_system.specs.State.{SystemState}
+use Rattle.dali_runs.specs.State.{SystemState}
 use Rattle.dali_turns.specs.declared.client.State.{State}
 use Rattle.dali_turns.specs.declared.client.State.TheVariants.{Auditing, Copying, Certifying}
 

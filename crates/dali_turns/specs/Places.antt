@@ -6,8 +6,8 @@
 use Rattle.std.specs.Prelude.{◌≡◌, List, Option, IfSome}
 use Rattle.dali_region.specs.State.{RegionState}
 use Rattle.dali_store.specs.Store.{Files as Disk}
-use Rattle.dali_vault.specs.Vaulted.{Vaulted}
-use Rattle.dali_whole.specs.Cores.{HoldsPlaces, IsNoShorter}
+use Rattle.dali_core.specs.Vault.Vaulted.{Vaulted}
+use Rattle.dali_core.specs.Cores.{HoldsPlaces, IsNoShorter}
 use Rattle.dali_checkpoint.specs.Done.{Reaches}
 use Rattle.dali_checkpoint.specs.Kept.{side_in}
 use Rattle.dali_turns.specs.declared.client.State.{State}

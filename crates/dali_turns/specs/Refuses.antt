@@ -26,23 +26,23 @@ use Rattle.dali_record.specs.declared.records.Record.TheVariants.{AuditBegin, Be
 use Rattle.dali_record.specs.Spelling.{record_length}
 use Rattle.dali_region.specs.State.{RegionState}
 use Rattle.dali_region.specs.declared.LatchError.TheVariants.{Damaged, DeadHolder}
-use Rattle.dali_system.specs.declared.causes.Cause.{Cause}
-use Rattle.dali_system.specs.State.{SystemState}
-use Rattle.dali_core.specs.Audits.{audit_refusal}
-use Rattle.dali_core.specs.Refused.{refusal, stop_refusal}
-use Rattle.dali_core.specs.declared.error.SystemError.{SystemError}
-use Rattle.dali_core.specs.declared.error.SystemError.TheVariants.{Stopped, LogFull}
-use Rattle.dali_core.specs.declared.want.Want.TheVariants.{Region, Nothing}
+use Rattle.dali_runs.specs.declared.causes.Cause.{Cause}
+use Rattle.dali_runs.specs.State.{SystemState}
+use Rattle.dali_system.specs.Audits.{audit_refusal}
+use Rattle.dali_system.specs.Refused.{refusal, stop_refusal}
+use Rattle.dali_system.specs.declared.error.SystemError.{SystemError}
+use Rattle.dali_system.specs.declared.error.SystemError.TheVariants.{Stopped, LogFull}
+use Rattle.dali_system.specs.declared.want.Want.TheVariants.{Region, Nothing}
 use Rattle.dali_calls.specs.Plans.{Planned, refused, want_of, plan_next, is_back}
-use Rattle.dali_single.specs.Refusals.{IsRefusal, IsLatched}
-use Rattle.dali_single.specs.declared.error.StepError.{StepError}
-use Rattle.dali_single.specs.declared.error.StepError.TheVariants.{Latch, System}
-use Rattle.dali_clients.specs.declared.command.Command.{Command}
-use Rattle.dali_clients.specs.declared.command.Command.TheVariants.{Begin, Call, Commit, Abort, Audit, Checkpoint}
-use Rattle.dali_clients.specs.declared.line.Line.{Line}
-use Rattle.dali_clients.specs.declared.line.Line.TheVariants.{CommitOk, LeftOpen, Refused}
-use Rattle.dali_clients.specs.declared.line.Why.{Why}
-use Rattle.dali_clients.specs.declared.line.Why.TheVariants.{Stopped as IsStopped, LogFull as IsFull, Damaged as IsDamaged, InProgress, StoreStopped}
+use Rattle.dali_calls.specs.Single.Refusals.{IsRefusal, IsLatched}
+use Rattle.dali_calls.specs.declared.single.error.StepError.{StepError}
+use Rattle.dali_calls.specs.declared.single.error.StepError.TheVariants.{Latch, System}
+use Rattle.dali_transcripts.specs.declared.clients.command.Command.{Command}
+use Rattle.dali_transcripts.specs.declared.clients.command.Command.TheVariants.{Begin, Call, Commit, Abort, Audit, Checkpoint}
+use Rattle.dali_transcripts.specs.declared.clients.line.Line.{Line}
+use Rattle.dali_transcripts.specs.declared.clients.line.Line.TheVariants.{CommitOk, LeftOpen, Refused}
+use Rattle.dali_transcripts.specs.declared.clients.line.Why.{Why}
+use Rattle.dali_transcripts.specs.declared.clients.line.Why.TheVariants.{Stopped as IsStopped, LogFull as IsFull, Damaged as IsDamaged, InProgress, StoreStopped}
 use Rattle.dali_turns.specs.declared.client.Client.{Client}
 use Rattle.dali_turns.specs.declared.client.State.{State}
 use Rattle.dali_turns.specs.declared.client.State.TheVariants.{Outside, LeftOut, Within, Calling, TakingBack, Committing, Waiting, Auditing, Copying, Certifying}

@@ -7,16 +7,17 @@ use Rattle.dali_record.specs.declared.records.Record.{Record}
 use Rattle.dali_record.specs.declared.records.Record.TheVariants.{Ended}
 use Rattle.dali_region.specs.State.{RegionState}
 use Rattle.dali_store.specs.Store.{Files as Disk}
-use Rattle.dali_system.specs.State.{SystemState, state_of}
+use Rattle.dali_store.specs.declared.store.Store.{Ghosts}
+use Rattle.dali_runs.specs.State.{SystemState, state_of}
 use Rattle.dali_crash.specs.Checkpoints.{Point}
 use Rattle.dali_crash.specs.StoreRuns.{FlagTells}
 use Rattle.dali_crash.specs.Traces.{Start}
-use Rattle.dali_vault.specs.Vaulted.{Vaulted}
-use Rattle.dali_whole.specs.Cores.{HoldsPlaces}
-use Rattle.dali_ends.specs.Stands.{StandsAt}
+use Rattle.dali_core.specs.Vault.Vaulted.{Vaulted}
+use Rattle.dali_core.specs.Cores.{HoldsPlaces}
+use Rattle.dali_transactions.specs.Stands.{StandsAt}
 use Rattle.dali_transcripts.specs.World.{World, IsLogged, is_claimed_in}
 use Rattle.dali_transcripts.specs.Rounds.{IsBetween}
-use Rattle.dali_deeds.specs.Tells.{Tells}
+use Rattle.dali_transcripts.specs.Telling.Tells.{Tells}
 
 abbrev pub HadRow : World → ℕ → Type 0
 HadRow w t = IsSome (state_of w.core.system t) ⊎ ((n : ℕ) × IsLogged w n (Ended t))
@@ -24,10 +25,10 @@ HadRow w t = IsSome (state_of w.core.system t) ⊎ ((n : ℕ) × IsLogged w n (E
 pub record IsQuiet (y : SystemState) : Type 0 where
   pub unclaimed : (t : ℕ) → is_claimed_in (state_of y t) ≡ false
 
-module _ {V : Type 0} (told : V → Option Disk) (may_leave : V → Disk → Type 0) (faults : V → ℕ) where
+module _ {V : Type 0} (means : Ghosts V) where
   pub record Stood (s : Start) (B : List (List Record)) (p : Point) (w : World) (precheck : Bool) (gs : List RegionState) (y : SystemState) (v : Vaulted V) : Type 0 where
-    pub stands : StandsAt told may_leave faults s B p gs y v
-    pub files : IfSome (told v.store) (HoldsPlaces gs)
+    pub stands : StandsAt means s B p gs y v
+    pub files : IfSome (means.told v.store) (HoldsPlaces gs)
     pub quiet : IsQuiet y
     -- a store that failed has stopped the engine
     pub stops : v.stopped ≡ true → IsSome y.stop

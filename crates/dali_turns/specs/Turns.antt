@@ -9,10 +9,11 @@ use Rattle.std.specs.Prelude.{◌≡◌, ℕ, Bool, true, false, List, ◌++◌,
 use Rattle.dali_record.specs.declared.records.Record.{Record}
 use Rattle.dali_region.specs.State.{RegionState}
 use Rattle.dali_store.specs.Store.{Files as Disk}
-use Rattle.dali_system.specs.State.{SystemState}
+use Rattle.dali_store.specs.declared.store.Store.{Ghosts}
+use Rattle.dali_runs.specs.State.{SystemState}
 use Rattle.dali_crash.specs.Checkpoints.{Point}
 use Rattle.dali_crash.specs.Traces.{Start}
-use Rattle.dali_vault.specs.Vaulted.{Vaulted}
+use Rattle.dali_core.specs.Vault.Vaulted.{Vaulted}
 use Rattle.dali_transcripts.specs.World.{World}
 use Rattle.dali_transcripts.specs.Transcripts.{deeds_of, numbers_of}
 use Rattle.dali_transcripts.specs.Rounds.{Standing}
@@ -29,26 +30,26 @@ abbrev pub AreReceipts : Bool → World → Client → Type 0
 AreReceipts true w k = k.transcript.receipts ≡ own_numbers w k
 AreReceipts false w k = (lacking : List ℕ) × (own_numbers w k ≡ k.transcript.receipts ++ lacking)
 
-module _ {V : Type 0} (told : V → Option Disk) (may_leave : V → Disk → Type 0) (faults : V → ℕ) where
+module _ {V : Type 0} (means : Ghosts V) where
   pub record Turned (precheck : Bool) (s : Start) (B : List (List Record)) (p : Point) (w : World) (a : Standing) (k : Client) (gs : List RegionState) (y : SystemState) (v : Vaulted V)
       (ok : Bool) (j : Client) (hs : List RegionState) (z : SystemState) (u : Vaulted V) : Type 0 where
-    pub went : Went told may_leave faults precheck s B p w a k.state gs y v ok j hs z u
+    pub went : Went means precheck s B p w a k.state gs y v ok j hs z u
     pub receipts : AreReceipts ok went.world j
 
   abbrev pub TurnGoes : Bool → Client → List RegionState → SystemState → Vaulted V → Bool → Client → List RegionState → SystemState → Vaulted V → Type 0
   TurnGoes precheck k gs y v ok j hs z u =
       (s : Start) (B : List (List Record)) (p : Point) (w : World) (a : Standing)
-      → Stood told may_leave faults s B p w precheck gs y v → IsOf w a k → Fits told may_leave faults s B p w gs y v a (rest_of k) k.state → AreReceipts true w k
+      → Stood means s B p w precheck gs y v → IsOf w a k → Fits means s B p w gs y v a (rest_of k) k.state → AreReceipts true w k
       → Turned precheck s B p w a k gs y v ok j hs z u
 
   -- whichever state it is taken for
   pub record Halted (precheck : Bool) (state : State) (s : Start) (B : List (List Record)) (p : Point) (w : World) (a : Standing) (k : Client) (gs : List RegionState) (y : SystemState) (v : Vaulted V)
       (hs : List RegionState) (z : SystemState) (u : Vaulted V) : Type 0 where
-    pub went : Went told may_leave faults precheck s B p w a state gs y v false k hs z u
+    pub went : Went means precheck s B p w a state gs y v false k hs z u
     pub numbers : own_numbers went.world k ≡ own_numbers w k
 
   abbrev pub HaltGoes : Client → List RegionState → SystemState → Vaulted V → List RegionState → SystemState → Vaulted V → Type 0
   HaltGoes k gs y v hs z u =
       (precheck : Bool) (state : State) (s : Start) (B : List (List Record)) (p : Point) (w : World) (a : Standing)
-      → Stood told may_leave faults s B p w precheck gs y v → Speaks w a k → Fits told may_leave faults s B p w gs y v a (rest_of k) k.state
+      → Stood means s B p w precheck gs y v → Speaks w a k → Fits means s B p w gs y v a (rest_of k) k.state
       → Halted precheck state s B p w a k gs y v hs z u

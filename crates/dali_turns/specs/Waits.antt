@@ -4,7 +4,7 @@
 --     StaysPut y k j           it made no step for such a reason
 use Rattle.std.specs.Prelude.{◌≡◌, ◌⊎◌, ◌==◌, Bool, true, None, length}
 use Rattle.dali_record.specs.declared.records.Call.{Call}
-use Rattle.dali_system.specs.State.{SystemState}
+use Rattle.dali_runs.specs.State.{SystemState}
 use Rattle.dali_turns.specs.declared.client.Client.{Client}
 use Rattle.dali_turns.specs.declared.client.State.{State}
 use Rattle.dali_turns.specs.declared.client.State.TheVariants.{Within, Waiting}

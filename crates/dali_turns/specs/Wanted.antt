@@ -4,9 +4,9 @@
 --     wanted_region state y flushed    the region of the operation, of a call or of a removal, that is the client's next step, if one is
 use Rattle.std.specs.Prelude.{ℕ, ◌+◌, Bool, false, ◌&&◌, if◌then◌else◌, nat_lt, Option, Some, None, is_none, slice_get}
 use Rattle.dali_record.specs.declared.operations.Pending.{Pending}
-use Rattle.dali_system.specs.State.{SystemState}
-use Rattle.dali_core.specs.declared.want.Want.{Want}
-use Rattle.dali_core.specs.declared.want.Want.TheVariants.{Region}
+use Rattle.dali_runs.specs.State.{SystemState}
+use Rattle.dali_system.specs.declared.want.Want.{Want}
+use Rattle.dali_system.specs.declared.want.Want.TheVariants.{Region}
 use Rattle.dali_calls.specs.Plans.{want_of, is_back}
 use Rattle.dali_turns.specs.declared.client.State.{State}
 use Rattle.dali_turns.specs.declared.client.State.TheVariants.{Calling, Committing}

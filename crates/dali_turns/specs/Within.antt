@@ -14,23 +14,23 @@ use Rattle.dali_record.specs.declared.operations.Pending.{Pending}
 use Rattle.dali_record.specs.declared.records.Call.{Call}
 use Rattle.dali_locks.specs.declared.mode.Mode.{Mode}
 use Rattle.dali_att.specs.declared.state.State.TheVariants.{Live}
-use Rattle.dali_system.specs.declared.refusals.Refusal.{Refusal}
-use Rattle.dali_system.specs.State.{state_of, lock_of}
-use Rattle.dali_system.specs.Keeps.{IsFree}
+use Rattle.dali_runs.specs.declared.refusals.Refusal.{Refusal}
+use Rattle.dali_runs.specs.State.{state_of, lock_of}
+use Rattle.dali_runs.specs.Keeps.{IsFree}
 use Rattle.dali_crash.specs.Checkpoints.{Point}
 use Rattle.dali_calls.specs.declared.plan.Phase.{Phase}
 use Rattle.dali_calls.specs.declared.plan.Phase.TheVariants.{Calling as IsCalling, Refused as IsRefused}
 use Rattle.dali_calls.specs.Plans.{Planned, goes_back}
 use Rattle.dali_calls.specs.Steps.{answer_of}
-use Rattle.dali_single.specs.Stands.{IsAtRest, AtPlan}
-use Rattle.dali_single.specs.Single.{MayCall}
+use Rattle.dali_calls.specs.Single.Stands.{IsAtRest, AtPlan}
+use Rattle.dali_calls.specs.Single.Single.{MayCall}
 use Rattle.dali_transcripts.specs.Words.{Act, Begins, Calls, is_stop}
 use Rattle.dali_transcripts.specs.World.{World, Meets, Yields, HasGot}
 use Rattle.dali_transcripts.specs.Moves.{Receipt, Within, at, operations, left}
 use Rattle.dali_transcripts.specs.Causes.{AreAsking, AreAside, AreWork, AreTried, MetCause, GetsBusy, Survives, spares, undos_behind, StaysRefused, WasGranted, is_taking_back, StaysBack}
 use Rattle.dali_transcripts.specs.Rounds.{Standing, IsPlaced}
-use Rattle.dali_clients.specs.declared.line.Why.{Why}
-use Rattle.dali_clients.specs.Told.{act_of, reason_of}
+use Rattle.dali_transcripts.specs.declared.clients.line.Why.{Why}
+use Rattle.dali_transcripts.specs.Clients.Told.{act_of, reason_of}
 use Rattle.dali_turns.specs.declared.client.Transaction.{Transaction}
 use Rattle.dali_turns.specs.Stood.{HadRow}
 use Rattle.dali_turns.specs.Outside.{MaySay}

@@ -1,6 +1,6 @@
 //! A client of a round, as a machine that makes one step at a time.
 ghost use Rattle.std.specs.Prelude.{◌≡◌, ◌+◌, ◌-◌, ◌^◌, ◌&&◌, ◌==◌, length, min, slice_get, IsSome, OnOk, OnErr};
-ghost use Rattle.dali_clients.specs.Said.{silent};
+ghost use Rattle.dali_transcripts.specs.Clients.Said.{silent};
 ghost use Rattle.dali_turns.specs.declared.client.State.TheVariants.{Outside as IsOutside, Within as IsWithin, Gone as IsGone};
 ghost use Rattle.dali_turns.specs.Clients.{Passes, Finishes, RefusesCall, is_over};
 
@@ -8,8 +8,8 @@ use crate::plan::BoxedPlan;
 use dali_audit::Audit;
 use dali_bytes::OutOfMemory;
 use dali_checkpoint::Checkpoint;
-use dali_clients::{Block, Command, Line, Transcript, Why};
 use dali_record::Pending;
+use dali_transcripts::clients::{Block, Command, Line, Transcript, Why};
 use std::alloc::Global;
 
 /// A client's open transaction.

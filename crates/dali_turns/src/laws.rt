@@ -5,5 +5,5 @@ use dali_store::Store;
 
 /// A client that fits a world of a round fits it behind a step of another client.
 pub fn a_step_leaves_the_others<V: Store>()
-    ensures { OthersFit V.told V.may_leave V.faults }
+    ensures { OthersFit V.Store }
 {}

@@ -6,12 +6,12 @@ ghost use Rattle.dali_turns.specs.Wanted.{onward_region, removed_in, wanted_regi
 use crate::client::{Client, State};
 use crate::steps::is_flushed;
 use dali_calls::Plan;
-use dali_clients::Command;
-use dali_core::Want;
+use dali_core::Core;
 use dali_record::{Call, Pending, Undo};
 use dali_region::Region;
 use dali_store::Store;
-use dali_whole::Core;
+use dali_system::Want;
+use dali_transcripts::clients::Command;
 
 impl<'a> Client<'a> {
     /// The region of the operation that is its next step, if one is. What takes changes of a call back isn't told.

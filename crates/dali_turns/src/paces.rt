@@ -4,8 +4,8 @@ ghost use Rattle.dali_turns.specs.Wanted.{wanted_region};
 ghost use Rattle.dali_turns.specs.Paces.{none_begun, begun_at, is_in, IsInUse, ComesNearer, IsPaced};
 
 use crate::client::Client;
+use dali_core::Core;
 use dali_store::Store;
-use dali_whole::Core;
 
 /// An operation that has begun: its region is its client's until it is made, behind so many turns.
 #[derive(Clone, Copy)]

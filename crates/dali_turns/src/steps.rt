@@ -26,10 +26,10 @@ pub(crate) use cleaning::clean_up;
 pub use committing::halt;
 pub(crate) use committing::is_flushed;
 use dali_bytes::OutOfMemory;
-use dali_clients::Command;
-use dali_stepwise::Gate;
+use dali_calls::stepwise::Gate;
+use dali_core::Core;
 use dali_store::Store;
-use dali_whole::Core;
+use dali_transcripts::clients::Command;
 use std::alloc::Global;
 use std::mem;
 
@@ -51,11 +51,11 @@ pub fn turn<V: Store, G: Gate>(
     setting: &Setting<'_, G>,
 ) -> Result<bool, OutOfMemory>
     requires { HasPlaces V.told client.old.state core.old.regions.items core.old.vault }
-    ensures goes { TurnGoes V.told V.may_leave V.faults setting.now.precheck client.old core.old.regions.items core.old.system.state core.old.vault (is_ok result) client.new core.new.regions.items core.new.system.state core.new.vault }
+    ensures goes { TurnGoes V.Store setting.now.precheck client.old core.old.regions.items core.old.system.state core.old.vault (is_ok result) client.new core.new.regions.items core.new.system.state core.new.vault }
     ensures places { PlacesGo V.told client.old.state core.old.regions.items core.old.vault client.new.state core.new.regions.items core.new.vault }
     ensures idle { result ≡ Ok false → StaysPut core.old.system.state client.old.state client.old client.new × (core.new ≡ core.old) }
     ensures over { is_over client.old.state (length client.old.rest.now == 0) ≡ true → result ≡ Ok false }
-    ensures any_moment { TurnLeavesRight V.told V.may_leave V.faults V.moment V.left_since setting.now.precheck client.old core.old.regions.items core.old.system.state core.old.vault core.new.system.state core.new.vault }
+    ensures any_moment { TurnLeavesRight V.Store setting.now.precheck client.old core.old.regions.items core.old.system.state core.old.vault core.new.system.state core.new.vault }
     ensures refuses { Refuses setting.now.precheck client.old.state client.old core.old.regions.items core.old.system.state core.old.vault.flushed result client.new core.new.vault.stopped }
 {
     let first = core.system.records();
@@ -89,7 +89,7 @@ fn step<V: Store, G: Gate>(
     setting: &Setting<'_, G>,
 ) -> Result<bool, OutOfMemory>
     requires { HasPlaces V.told client.old.state core.old.regions.items core.old.vault }
-    ensures step { MakesStep V.told V.may_leave V.faults V.moment V.left_since setting.now.precheck client.old.state client.old core.old.regions.items core.old.system.state core.old.vault result client.new core.new.regions.items core.new.system.state core.new.vault }
+    ensures step { MakesStep V.Store setting.now.precheck client.old.state client.old core.old.regions.items core.old.system.state core.old.vault result client.new core.new.regions.items core.new.system.state core.new.vault }
     ensures idle { result ≡ Ok false → StaysPut core.old.system.state client.old.state client.old client.new × (core.new ≡ core.old) }
     ensures over { is_over client.old.state (length client.old.rest.now == 0) ≡ true → result ≡ Ok false }
 {
@@ -105,7 +105,7 @@ fn next_region<V: Store>(
     core: &mut Core<V>,
 ) -> Option<Result<bool, OutOfMemory>>
     requires { HasPlaces V.told client.old.state core.old.regions.items core.old.vault }
-    ensures step { IfSome result (λ stepped. (precheck : Bool) → MakesStep V.told V.may_leave V.faults V.moment V.left_since precheck client.old.state client.old core.old.regions.items core.old.system.state core.old.vault stepped client.new core.new.regions.items core.new.system.state core.new.vault) }
+    ensures step { IfSome result (λ stepped. (precheck : Bool) → MakesStep V.Store precheck client.old.state client.old core.old.regions.items core.old.system.state core.old.vault stepped client.new core.new.regions.items core.new.system.state core.new.vault) }
     ensures on { IfSome result (λ stepped. IfOk stepped (λ went. went ≡ true)) }
     ensures busy { IfSome result (λ stepped. (none : Bool) → is_over client.old.state none ≡ false) }
     ensures past { result ≡ None → (client.new ≡ client.old) × (core.new ≡ core.old) × IsPast client.old.state core.old.regions.items core.old.system.state }
@@ -126,7 +126,7 @@ fn step_on<V: Store, G: Gate>(
 ) -> Result<bool, OutOfMemory>
     requires places { HasPlaces V.told client.old.state core.old.regions.items core.old.vault }
     requires past { IsPast client.old.state core.old.regions.items core.old.system.state }
-    ensures step { MakesStep V.told V.may_leave V.faults V.moment V.left_since setting.now.precheck client.old.state client.old core.old.regions.items core.old.system.state core.old.vault result client.new core.new.regions.items core.new.system.state core.new.vault }
+    ensures step { MakesStep V.Store setting.now.precheck client.old.state client.old core.old.regions.items core.old.system.state core.old.vault result client.new core.new.regions.items core.new.system.state core.new.vault }
     ensures idle { result ≡ Ok false → StaysPut core.old.system.state client.old.state client.old client.new × (core.new ≡ core.old) }
     ensures over { is_over client.old.state (length client.old.rest.now == 0) ≡ true → result ≡ Ok false }
 {
@@ -180,11 +180,11 @@ fn next<V: Store, G: Gate>(
     setting: &Setting<'_, G>,
 ) -> Result<bool, OutOfMemory>
     requires stands { client.old.state ≡ IsOutside }
-    ensures goes { StepGoes V.told V.may_leave V.faults setting.now.precheck IsOutside client.old core.old.regions.items core.old.system.state core.old.vault (is_ok result) client.new core.new.regions.items core.new.system.state core.new.vault }
+    ensures goes { StepGoes V.Store setting.now.precheck IsOutside client.old core.old.regions.items core.old.system.state core.old.vault (is_ok result) client.new core.new.regions.items core.new.system.state core.new.vault }
     ensures places { PlacesGo V.told IsOutside core.old.regions.items core.old.vault client.new.state core.new.regions.items core.new.vault }
     ensures idle { result ≡ Ok false → StaysPut core.old.system.state IsOutside client.old client.new × (core.new ≡ core.old) }
     ensures over { (length client.old.rest.now == 0) ≡ true → result ≡ Ok false }
-    ensures any_moment { StepLeavesRight V.told V.may_leave V.faults V.moment V.left_since IsOutside client.old core.old.regions.items core.old.system.state core.old.vault core.new.system.state core.new.vault }
+    ensures any_moment { StepLeavesRight V.Store IsOutside client.old core.old.regions.items core.old.system.state core.old.vault core.new.system.state core.new.vault }
     ensures refuses { Refuses setting.now.precheck IsOutside client.old core.old.regions.items core.old.system.state core.old.vault.flushed result client.new core.new.vault.stopped }
 {
     match client.command() {
@@ -208,10 +208,10 @@ fn within<'a, V: Store, G: Gate>(
     setting: &Setting<'_, G>,
 ) -> Result<bool, OutOfMemory>
     requires stands { client.old.state ≡ IsOutside }
-    ensures goes { StepGoes V.told V.may_leave V.faults setting.now.precheck (IsWithin transaction.entry) client.old core.old.regions.items core.old.system.state core.old.vault (is_ok result) client.new core.new.regions.items core.new.system.state core.new.vault }
+    ensures goes { StepGoes V.Store setting.now.precheck (IsWithin transaction.entry) client.old core.old.regions.items core.old.system.state core.old.vault (is_ok result) client.new core.new.regions.items core.new.system.state core.new.vault }
     ensures places { PlacesGo V.told (IsWithin transaction.entry) core.old.regions.items core.old.vault client.new.state core.new.regions.items core.new.vault }
     ensures idle { result ≡ Ok false → StaysPut core.old.system.state (IsWithin transaction.entry) client.old client.new × (core.new ≡ core.old) }
-    ensures any_moment { StepLeavesRight V.told V.may_leave V.faults V.moment V.left_since (IsWithin transaction.entry) client.old core.old.regions.items core.old.system.state core.old.vault core.new.system.state core.new.vault }
+    ensures any_moment { StepLeavesRight V.Store (IsWithin transaction.entry) client.old core.old.regions.items core.old.system.state core.old.vault core.new.system.state core.new.vault }
     ensures refuses { RefusesIn core.old.system.state transaction.entry (next_of client.old) client.old result client.new }
 {
     match client.command() {

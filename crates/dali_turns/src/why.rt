@@ -3,8 +3,8 @@ ghost use Rattle.std.specs.Prelude.{◌≡◌, Some, None, IfOk, OnErr};
 ghost use Rattle.dali_turns.specs.Whys.{why_in};
 
 use dali_bytes::OutOfMemory;
-use dali_clients::Why;
-use dali_core::SystemError;
+use dali_system::SystemError;
+use dali_transcripts::clients::Why;
 
 /// Why a command is refused where the system refuses its record. Want of memory refuses no command, it ends the round.
 pub(crate) fn why_of(error: SystemError) -> Result<Why, OutOfMemory>

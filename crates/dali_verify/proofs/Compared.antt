@@ -20,7 +20,7 @@ use Rattle.std.proofs.lemmas.Map.Views.{btree_map_get_iff, btree_set_contains_if
 use Rattle.dali_lists.proofs.Options.{some_of_test}
 use Rattle.dali_lists.proofs.Tests.{same_tests}
 use Rattle.dali_geometry.specs.Sizes.{Sizes}
-use Rattle.dali_index.specs.Records.{records}
+use Rattle.dali_access.specs.Index.Records.{records}
 use Rattle.dali_record.specs.declared.records.Record.{Record}
 use Rattle.dali_history.specs.Serial.{expected}
 use Rattle.dali_replay.specs.Replayed.{Replayed, IsReplay}

@@ -6,16 +6,16 @@ use Rattle.std.proofs.lemmas.Grind.{flat_map-append}
 use Rattle.dali_record.specs.declared.records.Record.{Record}
 use Rattle.dali_record.specs.declared.records.Record.TheVariants.{Format}
 use Rattle.dali_record.specs.Spelling.{spelling, CanBeSpelled, Begins}
-use Rattle.dali_batch.specs.declared.finding.Found.{Found}
-use Rattle.dali_batch.specs.declared.finding.Found.TheVariants.{Batch, End}
-use Rattle.dali_batch.specs.Finding.{BatchAt, IsBad, IsFound}
-use Rattle.dali_batch.specs.Log.{body_bytes, records_in, BadAt, BadFrom, HasNoFormat, IsFront, IsRun, NoRecordAt, TailOf}
-use Rattle.dali_batch.specs.declared.error.BatchError.{BatchError}
-use Rattle.dali_batch.specs.declared.error.BatchError.TheVariants.{Fault, BadLog, OutOfMemory}
-use Rattle.dali_batch.proofs.Bodies.{ReadTo, none_read}
-use Rattle.dali_batch.proofs.Fronts.{open_of_batch, first_front, first_bad, no_format, bad_of_first, run_push, records_push, log_from_place, bad_from_place}
-use Rattle.dali_system.specs.State.{SystemState}
-use Rattle.dali_vault.specs.Vaulted.{Vaulted, with_store}
+use Rattle.dali_log.specs.declared.finding.Found.{Found}
+use Rattle.dali_log.specs.declared.finding.Found.TheVariants.{Batch, End}
+use Rattle.dali_log.specs.Finding.{BatchAt, IsBad, IsFound}
+use Rattle.dali_log.specs.Log.{body_bytes, records_in, BadAt, BadFrom, HasNoFormat, IsFront, IsRun, NoRecordAt, TailOf}
+use Rattle.dali_log.specs.declared.error.BatchError.{BatchError}
+use Rattle.dali_log.specs.declared.error.BatchError.TheVariants.{Fault, BadLog, OutOfMemory}
+use Rattle.dali_log.proofs.Bodies.{ReadTo, none_read}
+use Rattle.dali_log.proofs.Fronts.{open_of_batch, first_front, first_bad, no_format, bad_of_first, run_push, records_push, log_from_place, bad_from_place}
+use Rattle.dali_runs.specs.State.{SystemState}
+use Rattle.dali_core.specs.Vault.Vaulted.{Vaulted, with_store}
 use Rattle.dali_verify.specs.Errors.{read_as}
 use Rattle.dali_verify.specs.Verified.{Spell, IsInFile, IsWholeLog}
 use Rattle.dali_verify.specs.declared.error.VerifyError.TheVariants as errors

@@ -1,7 +1,7 @@
 -- How an error of the log is told.
 --     read_as e            that of a batch, as one of the comparison
-use Rattle.dali_batch.specs.declared.error.BatchError.{BatchError}
-use Rattle.dali_batch.specs.declared.error.BatchError.TheVariants.{Fault, BadLog, OutOfMemory}
+use Rattle.dali_log.specs.declared.error.BatchError.{BatchError}
+use Rattle.dali_log.specs.declared.error.BatchError.TheVariants.{Fault, BadLog, OutOfMemory}
 use Rattle.dali_verify.specs.declared.error.VerifyError.{VerifyError}
 use Rattle.dali_verify.specs.declared.error.VerifyError.TheVariants as verifying
 

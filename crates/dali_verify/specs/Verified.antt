@@ -9,14 +9,14 @@
 use Rattle.std.specs.Prelude.{◌≡◌, ◌⊎◌, ◌↔◌, ℕ, List, [], ◌++◌, Some, Contains, drop, flat_map}
 use Rattle.std.specs.List.Sorted.{IsStrictlyIncreasing}
 use Rattle.dali_geometry.specs.Sizes.{Sizes}
-use Rattle.dali_index.specs.Records.{records}
+use Rattle.dali_access.specs.Index.Records.{records}
 use Rattle.dali_record.specs.declared.records.Record.{Record}
 use Rattle.dali_record.specs.declared.records.Record.TheVariants.{Restarted}
 use Rattle.dali_history.specs.Serial.{Map, expected}
 use Rattle.dali_history.specs.Acknowledged.{IsDeletedByChain}
-use Rattle.dali_batch.specs.Batch.{IsUnformatted}
-use Rattle.dali_batch.specs.Log.{AreSpelled, body_bytes, LogOf, records_in}
-use Rattle.dali_system.specs.State.{SystemState}
+use Rattle.dali_log.specs.Batch.{IsUnformatted}
+use Rattle.dali_log.specs.Log.{AreSpelled, body_bytes, LogOf, records_in}
+use Rattle.dali_runs.specs.State.{SystemState}
 
 -- ---- the log
 abbrev pub Spell : List ℕ → List Record → Type 0

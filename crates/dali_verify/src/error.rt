@@ -3,8 +3,8 @@ ghost use Rattle.std.specs.Prelude.{◌≡◌};
 ghost use Rattle.dali_verify.specs.Errors.{read_as};
 ghost use Rattle.dali_verify.specs.declared.error.VerifyError.TheVariants.{OutOfMemory as Memory};
 
-use dali_batch::BatchError;
 use dali_bytes::OutOfMemory;
+use dali_log::BatchError;
 use std::alloc::{AllocError, AllocFailed};
 use thiserror::Error;
 

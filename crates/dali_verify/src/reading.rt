@@ -3,20 +3,20 @@ ghost use Rattle.std.specs.Prelude.{◌≡◌, ◌<◌, ◌≤◌, ◌+◌, ◌^
 ghost use Rattle.dali_store.specs.Faults.{Rose};
 ghost use Rattle.dali_record.specs.declared.records.Record.{Record};
 ghost use Rattle.dali_record.specs.Spelling.{CanBeSpelled};
-ghost use Rattle.dali_batch.specs.Batch.{IsUnformatted};
-ghost use Rattle.dali_batch.specs.Log.{BadAt, BadFrom, IsFront, NoRecordAt, TailOf, body_bytes, records_in};
-ghost use Rattle.dali_batch.specs.Reads.{OnlyReads};
-ghost use Rattle.dali_vault.specs.Vaulted.{with_store};
+ghost use Rattle.dali_log.specs.Batch.{IsUnformatted};
+ghost use Rattle.dali_log.specs.Log.{BadAt, BadFrom, IsFront, NoRecordAt, TailOf, body_bytes, records_in};
+ghost use Rattle.dali_log.specs.Reads.{OnlyReads};
+ghost use Rattle.dali_core.specs.Vault.Vaulted.{with_store};
 ghost use Rattle.dali_verify.specs.Verified.{Spell, IsInFile, IsWholeLog};
 ghost use Rattle.dali_verify.specs.declared.error.VerifyError.TheVariants as errors;
 
 use crate::error::VerifyError;
-use dali_batch::{BatchError, Found, format_of};
 use dali_bytes::Reader;
-use dali_core::System;
+use dali_core::vault::Vault;
+use dali_log::{BatchError, Found, format_of};
 use dali_record::{DecodeError, Record, decode};
 use dali_store::Store;
-use dali_vault::Vault;
+use dali_system::System;
 use std::alloc::Global;
 
 /// The place of the first batch's records.

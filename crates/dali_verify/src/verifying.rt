@@ -2,18 +2,18 @@
 ghost use Rattle.std.specs.Prelude.{◌≡◌, ◌↔◌, ℕ, List, IfOk, IfErr, IfSome, IsErrOf, IsTrue};
 ghost use Rattle.dali_store.specs.Faults.{Rose};
 ghost use Rattle.dali_record.specs.declared.records.Record.{Record};
-ghost use Rattle.dali_batch.specs.Log.{BadAt};
-ghost use Rattle.dali_batch.specs.Reads.{OnlyReads};
+ghost use Rattle.dali_log.specs.Log.{BadAt};
+ghost use Rattle.dali_log.specs.Reads.{OnlyReads};
 ghost use Rattle.dali_listing.specs.Listing.{in_memory};
-ghost use Rattle.dali_vault.specs.Vaulted.{with_store};
+ghost use Rattle.dali_core.specs.Vault.Vaulted.{with_store};
 ghost use Rattle.dali_verify.specs.Verified.{IsWholeLog, IsVerified};
 ghost use Rattle.dali_verify.specs.declared.error.VerifyError.TheVariants as errors;
 
 use crate::comparing::agrees;
 use crate::error::VerifyError;
 use crate::reading::whole_log;
+use dali_core::Core;
 use dali_store::Store;
-use dali_whole::Core;
 use std::alloc::Global;
 
 /// Whether the engine's memory is what a plain replay of its whole log comes to, records that wait to be flushed among them. Each

@@ -1,16 +1,16 @@
 //! The clean-up of a dead transaction step by step.
 ghost use Rattle.std.specs.Prelude.{◌≡◌, None};
 ghost use Rattle.dali_att.specs.Table.{undos_at};
-ghost use Rattle.dali_core.specs.TakenBack.{next_undo};
+ghost use Rattle.dali_system.specs.TakenBack.{next_undo};
 
 use super::operations::{Begun, Noted, die, formatted, is_free_again, put, put_in};
 use anyhow::{Context, Result};
 use dali_att::State;
-use dali_cleanup::Cleaning;
-use dali_core::{NotDead, Operation, System, SystemError, Want};
+use dali_clean::cleanup::Cleaning;
 use dali_geometry::Geometry;
 use dali_region::{Hold, Receipt, Region};
-use dali_system::Cause;
+use dali_runs::Cause;
+use dali_system::{NotDead, Operation, System, SystemError, Want};
 use std::alloc::Global;
 use std::test::*;
 
@@ -21,7 +21,7 @@ fn system(alloc: Global) -> Option<System> {
 }
 
 // Takes back the operation in which a client died.
-#[tactic(auto, using(dali_cleanup::proofs::Claims::is_left))]
+#[tactic(auto, using(dali_clean::proofs::CleanupLemmas::Claims::is_left))]
 fn recover(cleaning: &mut Cleaning, region: &mut Region) -> bool
     requires { cleaning.old.operation ≡ None }
 {

@@ -1,14 +1,14 @@
 //! What the tests of several crates do: a put from its first word to its record, and the death of a client.
 ghost use Rattle.std.specs.Prelude.{◌≡◌, IfSome};
 ghost use Rattle.dali_record.specs.Spelling.{IsOperation};
-ghost use Rattle.dali_system.specs.Regions.{IsOpen};
-ghost use Rattle.dali_core.specs.UnderWay.{IsUnderWay};
+ghost use Rattle.dali_runs.specs.Regions.{IsOpen};
+ghost use Rattle.dali_system.specs.UnderWay.{IsUnderWay};
 
 use dali_att::State;
-use dali_core::{Operation, System, SystemError};
 use dali_geometry::Geometry;
 use dali_record::Op;
 use dali_region::{Receipt, Region};
+use dali_system::{Operation, System, SystemError};
 use dali_words::Value;
 
 /// What is answered to a begin.
@@ -61,7 +61,7 @@ pub fn finish(operation: &mut Operation, region: &mut Region) -> Option<u32>
 }
 
 /// Performs an operation that writes one word or eight, and logs it for a transaction of the table.
-#[tactic(auto, using(dali_core::proofs::Guards::some_row))]
+#[tactic(auto, using(dali_system::proofs::Guards::some_row))]
 pub fn perform(
     system: &mut System,
     region: &mut Region,

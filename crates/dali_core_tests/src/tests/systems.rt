@@ -4,12 +4,12 @@ ghost use Rattle.std.specs.Prelude.{◌≤◌};
 use super::operations::{Begun, Noted, die};
 use anyhow::{Context, Result};
 use dali_att::State;
-use dali_core::{NotDead, System, SystemError};
 use dali_geometry::Geometry;
 use dali_locks::{LockAnswer, Mode};
 use dali_record::{Answer, Call};
 use dali_region::Receipt;
-use dali_system::{Cause, Refusal};
+use dali_runs::{Cause, Refusal};
+use dali_system::{NotDead, System, SystemError};
 use std::alloc::Global;
 use std::test::*;
 
@@ -19,7 +19,7 @@ type Given = Result<LockAnswer, SystemError>;
 type Claimed = Result<Option<u32>, NotDead>;
 
 // Commits a transaction of the table.
-#[tactic(auto, using(dali_core::proofs::Guards::some_row))]
+#[tactic(auto, using(dali_system::proofs::Guards::some_row))]
 fn commit(system: &mut System, txn: u64) -> Option<Result<Receipt, SystemError>> {
     match system.state(txn) {
         Some(_) => Some(system.commit(txn)),

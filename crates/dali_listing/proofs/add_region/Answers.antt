@@ -1,4 +1,4 @@
-use Rattle.dali_index.specs.Records.{stored}
+use Rattle.dali_access.specs.Index.Records.{stored}
 use Rattle.dali_listing.specs.Listing.{in_memory}
 use Rattle.dali_listing.proofs.Rows.{added, all}
 use Rattle.dali_listing.proofs.add_region.Goals as goal

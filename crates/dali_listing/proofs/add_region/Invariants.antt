@@ -1,7 +1,7 @@
 use Rattle.std.proofs.Common.{◌≡◌, ◌++◌}
 use Rattle.std.specs.Prelude.{filter_map}
 use Rattle.dali_words.specs.Words.{row_of}
-use Rattle.dali_index.specs.Records.{stored}
+use Rattle.dali_access.specs.Index.Records.{stored}
 use Rattle.dali_listing.specs.Listing.{in_memory, pairs_of}
 use Rattle.dali_listing.proofs.add_region.Given as goal
 

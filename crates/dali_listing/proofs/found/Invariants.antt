@@ -1,7 +1,7 @@
 use Rattle.std.proofs.Common.{◌≡◌}
 use Rattle.std.specs.Prelude.{flat_map, filter_map}
-use Rattle.dali_index.specs.Entries.{entries}
-use Rattle.dali_index.specs.Records.{stored, below}
+use Rattle.dali_access.specs.Index.Entries.{entries}
+use Rattle.dali_access.specs.Index.Records.{stored, below}
 use Rattle.dali_listing.specs.Listing.{in_memory, pairs_of}
 use Rattle.dali_listing.proofs.found.Given as goal
 

@@ -1,5 +1,5 @@
 use Rattle.std.proofs.Common.{◌≡◌, ◌<◌, ◌-◌}
-use Rattle.dali_index.specs.Records.{is_reached, reaches}
+use Rattle.dali_access.specs.Index.Records.{is_reached, reaches}
 use Rattle.dali_listing.specs.Listing.{in_memory}
 use Rattle.dali_listing.proofs.is_reached.Given as goal
 

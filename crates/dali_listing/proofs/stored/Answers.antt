@@ -1,6 +1,6 @@
 use Rattle.std.proofs.Common.{ap, sym, ◌∙◌, ◌+◌, ◌*◌, None, Some}
 use Rattle.std.specs.Prelude.{slice_index}
-use Rattle.dali_index.specs.Records.{cell_value}
+use Rattle.dali_access.specs.Index.Records.{cell_value}
 use Rattle.dali_listing.specs.Listing.{in_memory}
 use Rattle.dali_listing.proofs.Walk.{stands_for}
 use Rattle.dali_listing.proofs.stored.Goals as goal

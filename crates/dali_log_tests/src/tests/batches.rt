@@ -1,6 +1,7 @@
 //! What stands at a place of a log, and that what isn't asked for isn't read.
-use dali_batch::{Found, LogError, LogReader, find};
-use dali_memstore::{CallKind, Hook, MemoryStore, Watch};
+use dali_fuse::{CallKind, Hook, Watch};
+use dali_log::{Found, LogError, LogReader, find};
+use dali_memstore::MemoryStore;
 use dali_store::{FileName, Store};
 use std::alloc::Global;
 use std::cell::Cell;

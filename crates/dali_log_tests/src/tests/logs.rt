@@ -1,7 +1,7 @@
-//! That the worked logs of `dali_examples`, of which the prover computes what the definitions give, are those that a program spelled
+//! That the worked logs of `dali_history::examples`, of which the prover computes what the definitions give, are those that a program spelled
 //! which knows nothing of this repository: one record a line. trials/replays.txt has them too.
 ghost use Rattle.std.specs.Prelude.{◌≡◌, ◌++◌, ◌∷◌, []};
-ghost use Rattle.dali_examples.specs.Logs.{chain_log, chain_restarted_log, undone_change_log, damaged_writer_log, abort_log};
+ghost use Rattle.dali_history.specs.Examples.Logs.{chain_log, chain_restarted_log, undone_change_log, damaged_writer_log, abort_log};
 ghost use Rattle.dali_replay.specs.Texts.{text_of};
 
 // How the logs on damage begin: transaction 1 inserts key 4.

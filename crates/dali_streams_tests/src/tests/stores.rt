@@ -1,6 +1,7 @@
 //! Stores in memory: that calls succeed where there is memory, that the formula of a cut gives the bytes that were worked out
 //! by hand, and what a hook is told.
-use dali_memstore::{CallKind, Fuse, Hook, MemoryStore, Watch};
+use dali_fuse::{CallKind, Fuse, Hook, Watch};
+use dali_memstore::MemoryStore;
 use dali_store::{FileName, Store, StoreFault};
 use std::alloc::{AllocError, Global};
 use std::cell::Cell;

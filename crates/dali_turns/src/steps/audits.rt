@@ -1,8 +1,8 @@
 //! The steps of an audit.
 ghost use Rattle.std.specs.Prelude.{◌≡◌, ℕ, ◌<◌, ◌≤◌, ◌^◌, Bool, true, Some, None, is_ok, IfOk, IfSome, length};
 ghost use Rattle.dali_audit.specs.Findings.{Audited};
-ghost use Rattle.dali_clients.specs.declared.command.Command.TheVariants.{Audit as IsAudit};
-ghost use Rattle.dali_clients.specs.declared.line.Line.TheVariants.{Refused as IsRefused};
+ghost use Rattle.dali_transcripts.specs.declared.clients.command.Command.TheVariants.{Audit as IsAudit};
+ghost use Rattle.dali_transcripts.specs.declared.clients.line.Line.TheVariants.{Refused as IsRefused};
 ghost use Rattle.dali_turns.specs.declared.client.State.TheVariants.{Outside as IsOutside, Auditing as IsAuditing};
 ghost use Rattle.dali_turns.specs.Clients.{next_of};
 ghost use Rattle.dali_turns.specs.Goes.{StepGoes};
@@ -16,10 +16,10 @@ use crate::run::no_run;
 use crate::why::why_of;
 use dali_audit::Audit;
 use dali_bytes::OutOfMemory;
-use dali_clients::{Command, Line, Why};
+use dali_core::vault::Vault;
+use dali_core::{Core, flush};
 use dali_store::Store;
-use dali_vault::Vault;
-use dali_whole::{Core, flush};
+use dali_transcripts::clients::{Command, Line, Why};
 use std::alloc::Global;
 
 fn refused(why: Why) -> Line
@@ -47,7 +47,7 @@ pub(crate) fn start<V: Store>(
 ) -> Result<bool, OutOfMemory>
     requires next { next_of client.old ≡ Some IsAudit }
     requires stands { client.old.state ≡ IsOutside }
-    ensures goes { (precheck : Bool) → StepGoes V.told V.may_leave V.faults precheck IsOutside client.old core.old.regions.items core.old.system.state core.old.vault (is_ok result) client.new core.new.regions.items core.new.system.state core.new.vault }
+    ensures goes { (precheck : Bool) → StepGoes V.Store precheck IsOutside client.old core.old.regions.items core.old.system.state core.old.vault (is_ok result) client.new core.new.regions.items core.new.system.state core.new.vault }
     ensures places { PlacesGo V.told IsOutside core.old.regions.items core.old.vault client.new.state core.new.regions.items core.new.vault }
     ensures on { IfOk result (λ went. went ≡ true) }
     ensures vault { core.new.vault ≡ core.old.vault }
@@ -71,7 +71,7 @@ pub(crate) fn audit_next<V: Store>(
     client: &mut Client<'_>,
     core: &mut Core<V>,
 ) -> Option<Result<bool, OutOfMemory>>
-    ensures step { IfSome result (λ stepped. (precheck : Bool) → MakesStep V.told V.may_leave V.faults V.moment V.left_since precheck client.old.state client.old core.old.regions.items core.old.system.state core.old.vault stepped client.new core.new.regions.items core.new.system.state core.new.vault) }
+    ensures step { IfSome result (λ stepped. (precheck : Bool) → MakesStep V.Store precheck client.old.state client.old core.old.regions.items core.old.system.state core.old.vault stepped client.new core.new.regions.items core.new.system.state core.new.vault) }
     ensures on { IfSome result (λ stepped. IfOk stepped (λ went. went ≡ true)) }
     ensures past { result ≡ None → (client.new ≡ client.old) × (core.new ≡ core.old) × ((audit : Audited) (next : ℕ) → client.old.state ≡ IsAuditing audit next → length core.old.regions.items ≤ next) }
 {
@@ -99,10 +99,10 @@ pub(crate) fn end<V: Store>(
 ) -> Result<bool, OutOfMemory>
     requires stands { client.old.state ≡ IsOutside }
     requires all { length core.old.regions.items ≤ next }
-    ensures goes { (precheck : Bool) → StepGoes V.told V.may_leave V.faults precheck (IsAuditing audit next) client.old core.old.regions.items core.old.system.state core.old.vault (is_ok result) client.new core.new.regions.items core.new.system.state core.new.vault }
+    ensures goes { (precheck : Bool) → StepGoes V.Store precheck (IsAuditing audit next) client.old core.old.regions.items core.old.system.state core.old.vault (is_ok result) client.new core.new.regions.items core.new.system.state core.new.vault }
     ensures places { PlacesGo V.told (IsAuditing audit next) core.old.regions.items core.old.vault client.new.state core.new.regions.items core.new.vault }
     ensures on { IfOk result (λ went. went ≡ true) }
-    ensures any_moment { StepLeavesRight V.told V.may_leave V.faults V.moment V.left_since (IsAuditing audit next) client.old core.old.regions.items core.old.system.state core.old.vault core.new.system.state core.new.vault }
+    ensures any_moment { StepLeavesRight V.Store (IsAuditing audit next) client.old core.old.regions.items core.old.system.state core.old.vault core.new.system.state core.new.vault }
     ensures refuses { SaysStop core.old.system.state IsOutside IsAudit client.old result client.new }
 {
     if !audit.has_passed_all() || !has_room(&core.vault) {

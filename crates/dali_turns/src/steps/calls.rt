@@ -1,22 +1,22 @@
 //! The steps of a call.
 ghost use Rattle.std.specs.Prelude.{◌≡◌, ℕ, Bool, true, false, not, Some, None, IsSome, OnOk, OnErr, IfOk, IfErr, is_ok, is_some};
 ghost use Rattle.dali_record.specs.declared.records.Call.{Call as Called};
-ghost use Rattle.dali_core.specs.declared.want.Want.TheVariants.{Done as AnswerIsNext};
+ghost use Rattle.dali_system.specs.declared.want.Want.TheVariants.{Done as AnswerIsNext};
 ghost use Rattle.dali_calls.specs.Flags.{FlagsStay};
 ghost use Rattle.dali_calls.specs.Plans.{want_of, plan_next, is_back, is_answered, IsWhole};
-ghost use Rattle.dali_single.specs.Refusals.{IsRefusal, IsLatched};
-ghost use Rattle.dali_single.specs.Stands.{IsAtRest};
+ghost use Rattle.dali_calls.specs.Single.Refusals.{IsRefusal, IsLatched};
+ghost use Rattle.dali_calls.specs.Single.Stands.{IsAtRest};
 ghost use Rattle.dali_region.specs.declared.LatchError.TheVariants.{Damaged};
-ghost use Rattle.dali_core.specs.declared.error.SystemError.{SystemError as Refused};
-ghost use Rattle.dali_single.specs.declared.error.StepError.{StepError as MayRefuse};
-ghost use Rattle.dali_single.specs.declared.error.StepError.TheVariants.{Latch as ByLatch, System as BySystem};
-ghost use Rattle.dali_stepwise.specs.Stepwise.{OneFurther, IsDeath};
+ghost use Rattle.dali_system.specs.declared.error.SystemError.{SystemError as Refused};
+ghost use Rattle.dali_calls.specs.declared.single.error.StepError.{StepError as MayRefuse};
+ghost use Rattle.dali_calls.specs.declared.single.error.StepError.TheVariants.{Latch as ByLatch, System as BySystem};
+ghost use Rattle.dali_calls.specs.Stepwise.Stepwise.{OneFurther, IsDeath};
 ghost use Rattle.dali_att.specs.declared.state.State.TheVariants.{Live};
-ghost use Rattle.dali_system.specs.State.{state_of};
+ghost use Rattle.dali_runs.specs.State.{state_of};
 ghost use Rattle.dali_clean.specs.Cleaned.{IsDead};
 ghost use Rattle.dali_transcripts.specs.World.{is_dead_in};
-ghost use Rattle.dali_clients.specs.declared.command.Command.TheVariants.{Call as IsCall};
-ghost use Rattle.dali_clients.specs.declared.line.Why.TheVariants.{Damaged as IsDamaged};
+ghost use Rattle.dali_transcripts.specs.declared.clients.command.Command.TheVariants.{Call as IsCall};
+ghost use Rattle.dali_transcripts.specs.declared.clients.line.Why.TheVariants.{Damaged as IsDamaged};
 ghost use Rattle.dali_turns.specs.declared.client.State.TheVariants.{Outside as IsOutside, Within as IsWithin, Calling as IsCalling, TakingBack as IsTakingBack};
 ghost use Rattle.dali_turns.specs.Clients.{next_of, next_point, Stays};
 ghost use Rattle.dali_turns.specs.Calls.{TurnsBack, IsRefusedBy, IsDeadly, IsFurther, MakesNext, MustWait, call_in};
@@ -33,15 +33,15 @@ use crate::why::why_of;
 use dali_att::State as TxnState;
 use dali_bytes::OutOfMemory;
 use dali_calls::Plan;
-use dali_clients::{Command, Line, Why};
-use dali_core::{SystemError, Want};
+use dali_calls::single::StepError;
+use dali_calls::stepwise::{Gate, GatePoint};
+use dali_core::Core;
 use dali_locks::LockAnswer;
 use dali_record::Call;
 use dali_region::LatchError;
-use dali_single::StepError;
-use dali_stepwise::{Gate, GatePoint};
 use dali_store::Store;
-use dali_whole::Core;
+use dali_system::{SystemError, Want};
+use dali_transcripts::clients::{Command, Line, Why};
 use std::alloc::Global;
 
 /// Asks for the lock of the call, once there is room for its plan. Where a dead transaction holds it, that one is cleaned
@@ -55,7 +55,7 @@ pub(crate) fn ask<'a, V: Store>(
 ) -> Result<bool, OutOfMemory>
     requires stands { client.old.state ≡ IsOutside }
     requires next { next_of client.old ≡ Some (IsCall call) }
-    ensures goes { (precheck : Bool) → StepGoes V.told V.may_leave V.faults precheck (IsWithin transaction.entry) client.old core.old.regions.items core.old.system.state core.old.vault (is_ok result) client.new core.new.regions.items core.new.system.state core.new.vault }
+    ensures goes { (precheck : Bool) → StepGoes V.Store precheck (IsWithin transaction.entry) client.old core.old.regions.items core.old.system.state core.old.vault (is_ok result) client.new core.new.regions.items core.new.system.state core.new.vault }
     ensures places { PlacesGo V.told (IsWithin transaction.entry) core.old.regions.items core.old.vault client.new.state core.new.regions.items core.new.vault }
     ensures waits { IfOk result (λ went. went ≡ false → Stays client.old (IsWithin transaction.entry) client.new × (core.new ≡ core.old) × (core.old.system.state.stop ≡ None) × MustWait core.old.system.state transaction.entry.txn call) }
     ensures vault { core.new.vault ≡ core.old.vault }
@@ -63,7 +63,7 @@ pub(crate) fn ask<'a, V: Store>(
 {
     let fresh = Plan::new(core.system.geometry(), transaction.txn, call);
     let plan = BoxedPlan::new(alloc, fresh)?;
-    match dali_stepwise::ask(plan.get(), &mut core.system, transaction.txn) {
+    match dali_calls::stepwise::ask(plan.get(), &mut core.system, transaction.txn) {
         Ok(answer) => match answer {
             LockAnswer::Granted => {
                 client.state = State::Calling { transaction, plan };
@@ -107,7 +107,7 @@ fn clean_holder<'a, V: Store>(
     requires stands { client.old.state ≡ IsOutside }
     requires next { (call : Called) × (next_of client.old ≡ Some (IsCall call)) }
     requires dead { IsDead (state_of core.old.system.state holder) }
-    ensures goes { (precheck : Bool) → StepGoes V.told V.may_leave V.faults precheck (IsWithin transaction.entry) client.old core.old.regions.items core.old.system.state core.old.vault (is_ok result) client.new core.new.regions.items core.new.system.state core.new.vault }
+    ensures goes { (precheck : Bool) → StepGoes V.Store precheck (IsWithin transaction.entry) client.old core.old.regions.items core.old.system.state core.old.vault (is_ok result) client.new core.new.regions.items core.new.system.state core.new.vault }
     ensures places { PlacesGo V.told (IsWithin transaction.entry) core.old.regions.items core.old.vault client.new.state core.new.regions.items core.new.vault }
     ensures on { IfOk result (λ went. went ≡ true) }
     ensures vault { core.new.vault ≡ core.old.vault }
@@ -185,7 +185,7 @@ pub(crate) fn call<'a, V: Store, G: Gate>(
     setting: &Setting<'_, G>,
 ) -> Result<bool, OutOfMemory>
     requires stands { client.old.state ≡ IsOutside }
-    ensures goes { StepGoes V.told V.may_leave V.faults setting.now.precheck (IsCalling transaction.entry plan) client.old core.old.regions.items core.old.system.state core.old.vault (is_ok result) client.new core.new.regions.items core.new.system.state core.new.vault }
+    ensures goes { StepGoes V.Store setting.now.precheck (IsCalling transaction.entry plan) client.old core.old.regions.items core.old.system.state core.old.vault (is_ok result) client.new core.new.regions.items core.new.system.state core.new.vault }
     ensures places { PlacesGo V.told (IsCalling transaction.entry plan) core.old.regions.items core.old.vault client.new.state core.new.regions.items core.new.vault }
     ensures on { IfOk result (λ went. went ≡ true) }
     ensures vault { core.new.vault ≡ core.old.vault }
@@ -237,7 +237,7 @@ fn make_next<V: Store, G: Gate>(
     ensures vault { core.new.vault ≡ core.old.vault }
 {
     let point = gate_point(client, setting);
-    dali_stepwise::operate(
+    dali_calls::stepwise::operate(
         &mut plan.plan,
         &mut core.regions,
         &mut core.system,
@@ -262,7 +262,7 @@ fn die_next<V: Store, G: Gate>(
     ensures vault { core.new.vault ≡ core.old.vault }
 {
     let point = gate_point(client, setting);
-    dali_stepwise::die(
+    dali_calls::stepwise::die(
         &mut plan.plan,
         &mut core.regions,
         &mut core.system,
@@ -285,7 +285,7 @@ fn operate<'a, V: Store, G: Gate>(
     requires makes { MakesNext core.old.regions.items core.old.system.state plan (next_of client.old) region }
     requires way { onward ≡ not (is_back plan) }
     requires lives { onward ≡ true → IsDeadly transaction → ⊥ }
-    ensures goes { StepGoes V.told V.may_leave V.faults setting.now.precheck (IsCalling transaction.entry plan) client.old core.old.regions.items core.old.system.state core.old.vault (is_ok result) client.new core.new.regions.items core.new.system.state core.new.vault }
+    ensures goes { StepGoes V.Store setting.now.precheck (IsCalling transaction.entry plan) client.old core.old.regions.items core.old.system.state core.old.vault (is_ok result) client.new core.new.regions.items core.new.system.state core.new.vault }
     ensures places { PlacesGo V.told (IsCalling transaction.entry plan) core.old.regions.items core.old.vault client.new.state core.new.regions.items core.new.vault }
     ensures on { IfOk result (λ went. went ≡ true) }
     ensures vault { core.new.vault ≡ core.old.vault }
@@ -329,7 +329,7 @@ fn die<'a, V: Store, G: Gate>(
     requires makes { MakesNext core.old.regions.items core.old.system.state plan (next_of client.old) region }
     requires way { is_back plan ≡ false }
     requires deadly { IsDeadly transaction }
-    ensures goes { StepGoes V.told V.may_leave V.faults setting.now.precheck (IsCalling transaction.entry plan) client.old core.old.regions.items core.old.system.state core.old.vault (is_ok result) client.new core.new.regions.items core.new.system.state core.new.vault }
+    ensures goes { StepGoes V.Store setting.now.precheck (IsCalling transaction.entry plan) client.old core.old.regions.items core.old.system.state core.old.vault (is_ok result) client.new core.new.regions.items core.new.system.state core.new.vault }
     ensures places { PlacesGo V.told (IsCalling transaction.entry plan) core.old.regions.items core.old.vault client.new.state core.new.regions.items core.new.vault }
     ensures on { IfOk result (λ went. went ≡ true) }
     ensures vault { core.new.vault ≡ core.old.vault }
@@ -376,14 +376,14 @@ fn answer<'a, V: Store>(
     requires called { call_in (next_of client.old) ≡ Some call }
     requires wants { want_of plan ≡ AnswerIsNext }
     requires whole { IsWhole plan }
-    ensures goes { (precheck : Bool) → StepGoes V.told V.may_leave V.faults precheck (IsCalling transaction.entry plan) client.old core.old.regions.items core.old.system.state core.old.vault (is_ok result) client.new core.new.regions.items core.new.system.state core.new.vault }
+    ensures goes { (precheck : Bool) → StepGoes V.Store precheck (IsCalling transaction.entry plan) client.old core.old.regions.items core.old.system.state core.old.vault (is_ok result) client.new core.new.regions.items core.new.system.state core.new.vault }
     ensures places { PlacesGo V.told (IsCalling transaction.entry plan) core.old.regions.items core.old.vault client.new.state core.new.regions.items core.new.vault }
     ensures on { IfOk result (λ went. went ≡ true) }
     ensures vault { core.new.vault ≡ core.old.vault }
     ensures met { (precheck : Bool) (e : MayRefuse) → IsRefusal precheck plan core.old.regions.items core.old.system.state e → OnOk result (IsMet e core.old.system.state.stop client.old transaction.entry plan client.new) }
 {
     let mut plan = plan;
-    match dali_stepwise::answer(&mut plan.plan, &mut core.system) {
+    match dali_calls::stepwise::answer(&mut plan.plan, &mut core.system) {
         Ok(answer) => {
             let state = State::Within { transaction };
             client.finish(state, Line::Answered { call, answer })?;
@@ -407,7 +407,7 @@ fn hindered<'a, V: Store>(
     requires makes { MakesNext core.old.regions.items core.old.system.state plan (next_of client.old) region }
     requires cause { (precheck : Bool) × IsRefusal precheck plan core.old.regions.items core.old.system.state error }
     requires lives { is_back plan ≡ false → IsDeadly transaction → IsLatched error }
-    ensures goes { (precheck : Bool) → IsRefusal precheck plan core.old.regions.items core.old.system.state error → StepGoes V.told V.may_leave V.faults precheck (IsCalling transaction.entry plan) client.old core.old.regions.items core.old.system.state core.old.vault (is_ok result) client.new core.new.regions.items core.new.system.state core.new.vault }
+    ensures goes { (precheck : Bool) → IsRefusal precheck plan core.old.regions.items core.old.system.state error → StepGoes V.Store precheck (IsCalling transaction.entry plan) client.old core.old.regions.items core.old.system.state core.old.vault (is_ok result) client.new core.new.regions.items core.new.system.state core.new.vault }
     ensures places { PlacesGo V.told (IsCalling transaction.entry plan) core.old.regions.items core.old.vault client.new.state core.new.regions.items core.new.vault }
     ensures on { IfOk result (λ went. went ≡ true) }
     ensures damaged { (codeword found : ℕ) → error ≡ ByLatch (Damaged codeword found) → TurnsBack client.old transaction.entry plan (IsDamaged region codeword found) client.new }
@@ -491,7 +491,7 @@ pub(crate) fn take_back<'a, V: Store, G: Gate>(
     setting: &Setting<'_, G>,
 ) -> Result<bool, OutOfMemory>
     requires stands { client.old.state ≡ IsOutside }
-    ensures goes { StepGoes V.told V.may_leave V.faults setting.now.precheck (IsTakingBack transaction.entry plan why) client.old core.old.regions.items core.old.system.state core.old.vault (is_ok result) client.new core.new.regions.items core.new.system.state core.new.vault }
+    ensures goes { StepGoes V.Store setting.now.precheck (IsTakingBack transaction.entry plan why) client.old core.old.regions.items core.old.system.state core.old.vault (is_ok result) client.new core.new.regions.items core.new.system.state core.new.vault }
     ensures places { PlacesGo V.told (IsTakingBack transaction.entry plan why) core.old.regions.items core.old.vault client.new.state core.new.regions.items core.new.vault }
     ensures on { IfOk result (λ went. went ≡ true) }
     ensures vault { core.new.vault ≡ core.old.vault }
@@ -528,7 +528,7 @@ fn go_back<'a, V: Store, G: Gate>(
     requires rest { IsAtRest core.old.regions.items core.old.system.state plan }
     requires called { IsSome (call_in (next_of client.old)) }
     requires wants { IsSome (plan_next plan) }
-    ensures goes { StepGoes V.told V.may_leave V.faults setting.now.precheck (IsTakingBack transaction.entry plan why) client.old core.old.regions.items core.old.system.state core.old.vault (is_ok result) client.new core.new.regions.items core.new.system.state core.new.vault }
+    ensures goes { StepGoes V.Store setting.now.precheck (IsTakingBack transaction.entry plan why) client.old core.old.regions.items core.old.system.state core.old.vault (is_ok result) client.new core.new.regions.items core.new.system.state core.new.vault }
     ensures places { PlacesGo V.told (IsTakingBack transaction.entry plan why) core.old.regions.items core.old.vault client.new.state core.new.regions.items core.new.vault }
     ensures on { IfOk result (λ went. went ≡ true) }
     ensures vault { core.new.vault ≡ core.old.vault }
@@ -563,7 +563,7 @@ fn stuck<'a, V: Store>(
     requires called { IsSome (call_in (next_of client.old)) }
     requires wants { IsSome (plan_next plan) }
     requires cause { (precheck : Bool) × IsRefusal precheck plan core.old.regions.items core.old.system.state error }
-    ensures goes { (precheck : Bool) → IsRefusal precheck plan core.old.regions.items core.old.system.state error → StepGoes V.told V.may_leave V.faults precheck (IsTakingBack transaction.entry plan why) client.old core.old.regions.items core.old.system.state core.old.vault (is_ok result) client.new core.new.regions.items core.new.system.state core.new.vault }
+    ensures goes { (precheck : Bool) → IsRefusal precheck plan core.old.regions.items core.old.system.state error → StepGoes V.Store precheck (IsTakingBack transaction.entry plan why) client.old core.old.regions.items core.old.system.state core.old.vault (is_ok result) client.new core.new.regions.items core.new.system.state core.new.vault }
     ensures places { PlacesGo V.told (IsTakingBack transaction.entry plan why) core.old.regions.items core.old.vault client.new.state core.new.regions.items core.new.vault }
     ensures on { IfOk result (λ went. went ≡ true) }
     ensures vault { core.new.vault ≡ core.old.vault }

@@ -3,7 +3,7 @@ ghost use Rattle.std.specs.Prelude.{◌≡◌, ℕ, ◌+◌, ◌<◌, ◌≤◌,
 ghost use Rattle.dali_geometry.specs.Places.{regions as regions_of};
 ghost use Rattle.dali_checkpoint.specs.Kept.{Checkpointed, given_up};
 ghost use Rattle.dali_audit.specs.Findings.{Audited};
-ghost use Rattle.dali_clients.specs.declared.command.Command.TheVariants.{Checkpoint as IsCheckpoint};
+ghost use Rattle.dali_transcripts.specs.declared.clients.command.Command.TheVariants.{Checkpoint as IsCheckpoint};
 ghost use Rattle.dali_turns.specs.declared.client.State.TheVariants.{Outside as IsOutside, Copying as IsCopying, Certifying as IsCertifying};
 ghost use Rattle.dali_turns.specs.Endings.{line_in, SaysEnd, Unsaid};
 ghost use Rattle.dali_turns.specs.Clients.{next_of};
@@ -19,9 +19,9 @@ use crate::steps::audits::has_room;
 use dali_audit::Audit;
 use dali_bytes::OutOfMemory;
 use dali_checkpoint::{Checkpoint, CheckpointError};
-use dali_clients::{Command, Line, Why};
+use dali_core::Core;
 use dali_store::Store;
-use dali_whole::Core;
+use dali_transcripts::clients::{Command, Line, Why};
 use std::alloc::Global;
 use std::mem;
 
@@ -109,10 +109,10 @@ pub(crate) fn start<V: Store>(
 ) -> Result<bool, OutOfMemory>
     requires next { next_of client.old ≡ Some IsCheckpoint }
     requires stands { client.old.state ≡ IsOutside }
-    ensures goes { (precheck : Bool) → StepGoes V.told V.may_leave V.faults precheck IsOutside client.old core.old.regions.items core.old.system.state core.old.vault (is_ok result) client.new core.new.regions.items core.new.system.state core.new.vault }
+    ensures goes { (precheck : Bool) → StepGoes V.Store precheck IsOutside client.old core.old.regions.items core.old.system.state core.old.vault (is_ok result) client.new core.new.regions.items core.new.system.state core.new.vault }
     ensures places { PlacesGo V.told IsOutside core.old.regions.items core.old.vault client.new.state core.new.regions.items core.new.vault }
     ensures on { IfOk result (λ went. went ≡ true) }
-    ensures any_moment { StepLeavesRight V.told V.may_leave V.faults V.moment V.left_since IsOutside client.old core.old.regions.items core.old.system.state core.old.vault core.new.system.state core.new.vault }
+    ensures any_moment { StepLeavesRight V.Store IsOutside client.old core.old.regions.items core.old.system.state core.old.vault core.new.system.state core.new.vault }
     ensures refuses { RefusesNow core.old.system.state IsCheckpoint client.old result client.new }
 {
     if !has_room(&core.vault) {
@@ -157,7 +157,7 @@ pub(crate) fn copy_next<V: Store>(
     core: &mut Core<V>,
 ) -> Option<Result<bool, OutOfMemory>>
     requires places { HasPlaces V.told client.old.state core.old.regions.items core.old.vault }
-    ensures step { IfSome result (λ stepped. (precheck : Bool) → MakesStep V.told V.may_leave V.faults V.moment V.left_since precheck client.old.state client.old core.old.regions.items core.old.system.state core.old.vault stepped client.new core.new.regions.items core.new.system.state core.new.vault) }
+    ensures step { IfSome result (λ stepped. (precheck : Bool) → MakesStep V.Store precheck client.old.state client.old core.old.regions.items core.old.system.state core.old.vault stepped client.new core.new.regions.items core.new.system.state core.new.vault) }
     ensures on { IfSome result (λ stepped. IfOk stepped (λ went. went ≡ true)) }
     ensures past { result ≡ None → (client.new ≡ client.old) × (core.new ≡ core.old) × ((checkpoint : Checkpointed) (next : ℕ) → client.old.state ≡ IsCopying checkpoint next → core.old.system.state.stop ≡ None → length core.old.regions.items ≤ next) }
 {
@@ -194,10 +194,10 @@ pub(crate) fn copy<V: Store>(
     requires stands { client.old.state ≡ IsOutside }
     requires places { HasPlaces V.told (IsCopying checkpoint next) core.old.regions.items core.old.vault }
     requires all { core.old.system.state.stop ≡ None → length core.old.regions.items ≤ next }
-    ensures goes { (precheck : Bool) → StepGoes V.told V.may_leave V.faults precheck (IsCopying checkpoint next) client.old core.old.regions.items core.old.system.state core.old.vault (is_ok result) client.new core.new.regions.items core.new.system.state core.new.vault }
+    ensures goes { (precheck : Bool) → StepGoes V.Store precheck (IsCopying checkpoint next) client.old core.old.regions.items core.old.system.state core.old.vault (is_ok result) client.new core.new.regions.items core.new.system.state core.new.vault }
     ensures places { PlacesGo V.told (IsCopying checkpoint next) core.old.regions.items core.old.vault client.new.state core.new.regions.items core.new.vault }
     ensures on { IfOk result (λ went. went ≡ true) }
-    ensures any_moment { StepLeavesRight V.told V.may_leave V.faults V.moment V.left_since (IsCopying checkpoint next) client.old core.old.regions.items core.old.system.state core.old.vault core.new.system.state core.new.vault }
+    ensures any_moment { StepLeavesRight V.Store (IsCopying checkpoint next) client.old core.old.regions.items core.old.system.state core.old.vault core.new.system.state core.new.vault }
     ensures refuses { (precheck : Bool) → Refuses precheck (IsCopying checkpoint next) client.old core.old.regions.items core.old.system.state core.old.vault.flushed result client.new core.new.vault.stopped }
 {
     if let Some(cause) = core.system.stopped() {
@@ -237,7 +237,7 @@ pub(crate) fn certify_next<V: Store>(
     client: &mut Client<'_>,
     core: &mut Core<V>,
 ) -> Option<Result<bool, OutOfMemory>>
-    ensures step { IfSome result (λ stepped. (precheck : Bool) → MakesStep V.told V.may_leave V.faults V.moment V.left_since precheck client.old.state client.old core.old.regions.items core.old.system.state core.old.vault stepped client.new core.new.regions.items core.new.system.state core.new.vault) }
+    ensures step { IfSome result (λ stepped. (precheck : Bool) → MakesStep V.Store precheck client.old.state client.old core.old.regions.items core.old.system.state core.old.vault stepped client.new core.new.regions.items core.new.system.state core.new.vault) }
     ensures on { IfSome result (λ stepped. IfOk stepped (λ went. went ≡ true)) }
     ensures past { result ≡ None → (client.new ≡ client.old) × (core.new ≡ core.old) × ((checkpoint : Checkpointed) (audit : Audited) (next : ℕ) → client.old.state ≡ IsCertifying checkpoint audit next → length core.old.regions.items ≤ next) }
 {
@@ -266,10 +266,10 @@ pub(crate) fn finish_audit<V: Store>(
 ) -> Result<bool, OutOfMemory>
     requires stands { client.old.state ≡ IsOutside }
     requires all { length core.old.regions.items ≤ next }
-    ensures goes { (precheck : Bool) → StepGoes V.told V.may_leave V.faults precheck (IsCertifying checkpoint audit next) client.old core.old.regions.items core.old.system.state core.old.vault (is_ok result) client.new core.new.regions.items core.new.system.state core.new.vault }
+    ensures goes { (precheck : Bool) → StepGoes V.Store precheck (IsCertifying checkpoint audit next) client.old core.old.regions.items core.old.system.state core.old.vault (is_ok result) client.new core.new.regions.items core.new.system.state core.new.vault }
     ensures places { PlacesGo V.told (IsCertifying checkpoint audit next) core.old.regions.items core.old.vault client.new.state core.new.regions.items core.new.vault }
     ensures on { IfOk result (λ went. went ≡ true) }
-    ensures any_moment { StepLeavesRight V.told V.may_leave V.faults V.moment V.left_since (IsCertifying checkpoint audit next) client.old core.old.regions.items core.old.system.state core.old.vault core.new.system.state core.new.vault }
+    ensures any_moment { StepLeavesRight V.Store (IsCertifying checkpoint audit next) client.old core.old.regions.items core.old.system.state core.old.vault core.new.system.state core.new.vault }
     ensures refuses { SaysStop core.old.system.state IsOutside IsCheckpoint client.old result client.new }
 {
     if !audit.has_passed_all() || !may_certify(&checkpoint, &audit) || !has_room(&core.vault) {

@@ -1,18 +1,18 @@
 //! What a client does with a dead transaction that is in its way.
 ghost use Rattle.std.specs.Prelude.{◌≡◌, Some, None, Ok, IfSome, IfOk, OnErr};
-ghost use Rattle.dali_system.specs.State.{state_of};
-ghost use Rattle.dali_system.specs.declared.causes.Cause.{Cause as IsCause};
+ghost use Rattle.dali_runs.specs.State.{state_of};
+ghost use Rattle.dali_runs.specs.declared.causes.Cause.{Cause as IsCause};
 ghost use Rattle.dali_calls.specs.Flags.{FlagsStay};
 ghost use Rattle.dali_clean.specs.Cleaned.{MayClean, IsDead};
-ghost use Rattle.dali_clients.specs.declared.line.Why.TheVariants.{Stopped as IsStopped};
+ghost use Rattle.dali_transcripts.specs.declared.clients.line.Why.TheVariants.{Stopped as IsStopped};
 ghost use Rattle.dali_turns.specs.Ends.{IsCleanedUp, IsLeftDead};
 
 use crate::run::no_run;
 use dali_bytes::OutOfMemory;
 use dali_clean::CleanError;
-use dali_clients::Why;
+use dali_core::{Core, clean};
 use dali_store::Store;
-use dali_whole::{Core, clean};
+use dali_transcripts::clients::Why;
 
 /// Cleans up a dead transaction that is in the way. Answers why what met it is refused, where the engine is stopped.
 pub(crate) fn clean_up<V: Store>(core: &mut Core<V>, txn: u64) -> Result<Option<Why>, OutOfMemory>

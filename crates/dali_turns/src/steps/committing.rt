@@ -1,6 +1,6 @@
 //! A commit in steps: its record; its flush, which others' records share; each of its removals; its end.
 ghost use Rattle.std.specs.Prelude.{◌≡◌, ◌<◌, ◌≤◌, ◌+◌, Bool, true, false, Some, ◌^◌, IfOk, IfSome, IsSome, OnOk, is_ok, nat_lt, slice_get};
-ghost use Rattle.dali_clients.specs.declared.command.Command.TheVariants.{Commit as IsCommit};
+ghost use Rattle.dali_transcripts.specs.declared.clients.command.Command.TheVariants.{Commit as IsCommit};
 ghost use Rattle.dali_turns.specs.declared.client.State.TheVariants.{Outside as IsOutside, Within as IsWithin, Committing as IsCommitting, Gone as IsGone};
 ghost use Rattle.dali_turns.specs.Clients.{next_of};
 ghost use Rattle.dali_turns.specs.Commits.{awaits_flush};
@@ -14,12 +14,12 @@ use crate::client::{Client, State, Transaction};
 use crate::run::no_run;
 use crate::steps::audits::has_room;
 use dali_bytes::OutOfMemory;
-use dali_clients::{Command, Line, Why};
-use dali_ends::{CommitError, end_commit, free_removal, log_commit};
+use dali_core::vault::VaultError;
+use dali_core::{Core, flush};
 use dali_record::Pending;
 use dali_store::Store;
-use dali_vault::VaultError;
-use dali_whole::{Core, flush};
+use dali_transactions::{CommitError, end_commit, free_removal, log_commit};
+use dali_transcripts::clients::{Command, Line, Why};
 use std::alloc::Global;
 
 /// Logs the commit of the transaction.
@@ -31,7 +31,7 @@ pub(crate) fn commit<'a, V: Store>(
 ) -> Result<bool, OutOfMemory>
     requires stands { client.old.state ≡ IsOutside }
     requires next { next_of client.old ≡ Some IsCommit }
-    ensures goes { (precheck : Bool) → StepGoes V.told V.may_leave V.faults precheck (IsWithin transaction.entry) client.old core.old.regions.items core.old.system.state core.old.vault (is_ok result) client.new core.new.regions.items core.new.system.state core.new.vault }
+    ensures goes { (precheck : Bool) → StepGoes V.Store precheck (IsWithin transaction.entry) client.old core.old.regions.items core.old.system.state core.old.vault (is_ok result) client.new core.new.regions.items core.new.system.state core.new.vault }
     ensures places { PlacesGo V.told (IsWithin transaction.entry) core.old.regions.items core.old.vault client.new.state core.new.regions.items core.new.vault }
     ensures on { IfOk result (λ went. went ≡ true) }
     ensures vault { core.new.vault ≡ core.old.vault }
@@ -81,10 +81,10 @@ pub(crate) fn go_on<'a, V: Store>(
     alloc: Global,
 ) -> Result<bool, OutOfMemory>
     requires stands { client.old.state ≡ IsOutside }
-    ensures goes { (precheck : Bool) → StepGoes V.told V.may_leave V.faults precheck (IsCommitting transaction.entry number removals next) client.old core.old.regions.items core.old.system.state core.old.vault (is_ok result) client.new core.new.regions.items core.new.system.state core.new.vault }
+    ensures goes { (precheck : Bool) → StepGoes V.Store precheck (IsCommitting transaction.entry number removals next) client.old core.old.regions.items core.old.system.state core.old.vault (is_ok result) client.new core.new.regions.items core.new.system.state core.new.vault }
     ensures places { PlacesGo V.told (IsCommitting transaction.entry number removals next) core.old.regions.items core.old.vault client.new.state core.new.regions.items core.new.vault }
     ensures on { IfOk result (λ went. went ≡ true) }
-    ensures any_moment { StepLeavesRight V.told V.may_leave V.faults V.moment V.left_since (IsCommitting transaction.entry number removals next) client.old core.old.regions.items core.old.system.state core.old.vault core.new.system.state core.new.vault }
+    ensures any_moment { StepLeavesRight V.Store (IsCommitting transaction.entry number removals next) client.old core.old.regions.items core.old.system.state core.old.vault core.new.system.state core.new.vault }
     ensures refuses { EndsCommit number client.old core.old.system.state core.old.vault.flushed result client.new core.new.vault.stopped }
 {
     if is_flushed(core, number) {
@@ -127,7 +127,7 @@ fn settle_next<'a, V: Store>(
 ) -> Result<bool, OutOfMemory>
     requires stands { client.old.state ≡ IsOutside }
     requires flushed { number < core.old.system.state.first + core.old.vault.flushed }
-    ensures goes { (precheck : Bool) → StepGoes V.told V.may_leave V.faults precheck (IsCommitting transaction.entry number removals next) client.old core.old.regions.items core.old.system.state core.old.vault (is_ok result) client.new core.new.regions.items core.new.system.state core.new.vault }
+    ensures goes { (precheck : Bool) → StepGoes V.Store precheck (IsCommitting transaction.entry number removals next) client.old core.old.regions.items core.old.system.state core.old.vault (is_ok result) client.new core.new.regions.items core.new.system.state core.new.vault }
     ensures places { PlacesGo V.told (IsCommitting transaction.entry number removals next) core.old.regions.items core.old.vault client.new.state core.new.regions.items core.new.vault }
     ensures on { IfOk result (λ went. went ≡ true) }
     ensures vault { core.new.vault ≡ core.old.vault }
@@ -174,12 +174,12 @@ fn removal_at(removals: &[Pending], next: usize) -> Option<Pending>
 
 /// A client makes no step more, since its round ends here. A commit that is logged is flushed, or has failed.
 pub fn halt<V: Store>(client: &Client<'_>, core: &mut Core<V>, alloc: Global)
-    ensures goes { HaltGoes V.told V.may_leave V.faults client.now core.old.regions.items core.old.system.state core.old.vault core.new.regions.items core.new.system.state core.new.vault }
+    ensures goes { HaltGoes V.Store client.now core.old.regions.items core.old.system.state core.old.vault core.new.regions.items core.new.system.state core.new.vault }
     ensures places { PlacesGo V.told client.now.state core.old.regions.items core.old.vault client.now.state core.new.regions.items core.new.vault }
     ensures still { awaits_flush client.now.state core.old.system.state core.old.vault ≡ false → core.new ≡ core.old }
     ensures gone { client.now.state ≡ IsGone → core.new ≡ core.old }
     ensures log { core.new.system.state.since ≡ core.old.system.state.since }
-    ensures any_moment { HaltLeavesRight V.told V.may_leave V.faults V.moment V.left_since core.old.regions.items core.old.system.state core.old.vault core.new.vault }
+    ensures any_moment { HaltLeavesRight V.Store core.old.regions.items core.old.system.state core.old.vault core.new.vault }
 {
     if !awaits(client, core) {
         return;

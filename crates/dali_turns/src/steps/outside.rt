@@ -1,8 +1,8 @@
 //! The steps of a client outside a transaction that are no audit's and no checkpoint's.
 ghost use Rattle.std.specs.Prelude.{◌≡◌, ◌≢◌, ◌<◌, Bool, true, false, Some, None, Ok, is_ok, slice_get, slice_set, IfOk, OnOk};
 ghost use Rattle.dali_region.specs.State.{RegionState, poked};
-ghost use Rattle.dali_clients.specs.declared.command.Command.{Command as Order};
-ghost use Rattle.dali_clients.specs.declared.command.Command.TheVariants.{Begin as IsBegin, Poke as IsPoke};
+ghost use Rattle.dali_transcripts.specs.declared.clients.command.Command.{Command as Order};
+ghost use Rattle.dali_transcripts.specs.declared.clients.command.Command.TheVariants.{Begin as IsBegin, Poke as IsPoke};
 ghost use Rattle.dali_turns.specs.declared.client.State.{State as Place};
 ghost use Rattle.dali_turns.specs.declared.client.State.TheVariants.{Outside as IsOutside, LeftOut as IsLeftOut, Waiting as IsWaiting};
 ghost use Rattle.dali_turns.specs.Clients.{next_of, Passes, Stays, left_behind};
@@ -17,10 +17,10 @@ use crate::run::no_run;
 use crate::why::why_of;
 use dali_att::State as TxnState;
 use dali_bytes::OutOfMemory;
-use dali_clients::{Command, Line};
-use dali_core::System;
+use dali_core::Core;
 use dali_store::Store;
-use dali_whole::Core;
+use dali_system::System;
+use dali_transcripts::clients::{Command, Line};
 
 /// Begins a transaction of which so many tries got Busy. A begin that is refused leaves its transaction out.
 pub(crate) fn begin<V: Store>(
@@ -31,7 +31,7 @@ pub(crate) fn begin<V: Store>(
     requires next { next_of client.old ≡ Some IsBegin }
     requires stands { client.old.state ≡ IsOutside }
     ensures goes { (precheck : Bool) (state : Place) → BeginsFrom core.old.system.state tries state
-        → StepGoes V.told V.may_leave V.faults precheck state client.old core.old.regions.items core.old.system.state core.old.vault (is_ok result) client.new core.new.regions.items core.new.system.state core.new.vault }
+        → StepGoes V.Store precheck state client.old core.old.regions.items core.old.system.state core.old.vault (is_ok result) client.new core.new.regions.items core.new.system.state core.new.vault }
     ensures places { (state : Place) → PlacesGo V.told state core.old.regions.items core.old.vault client.new.state core.new.regions.items core.new.vault }
     ensures on { IfOk result (λ went. went ≡ true) }
     ensures vault { core.new.vault ≡ core.old.vault }
@@ -67,7 +67,7 @@ pub(crate) fn wait<V: Store>(
     core: &mut Core<V>,
 ) -> Result<bool, OutOfMemory>
     requires stands { client.old.state ≡ IsOutside }
-    ensures goes { (precheck : Bool) → StepGoes V.told V.may_leave V.faults precheck (IsWaiting tries holder) client.old core.old.regions.items core.old.system.state core.old.vault (is_ok result) client.new core.new.regions.items core.new.system.state core.new.vault }
+    ensures goes { (precheck : Bool) → StepGoes V.Store precheck (IsWaiting tries holder) client.old core.old.regions.items core.old.system.state core.old.vault (is_ok result) client.new core.new.regions.items core.new.system.state core.new.vault }
     ensures places { PlacesGo V.told (IsWaiting tries holder) core.old.regions.items core.old.vault client.new.state core.new.regions.items core.new.vault }
     ensures idle { result ≡ Ok false → StaysPut core.old.system.state (IsWaiting tries holder) client.old client.new × (core.new ≡ core.old) }
     ensures vault { core.new.vault ≡ core.old.vault }
@@ -138,7 +138,7 @@ pub(crate) fn poke<V: Store>(
 ) -> Result<bool, OutOfMemory>
     requires next { next_of client.old ≡ Some (IsPoke region word mask) }
     requires stands { client.old.state ≡ IsOutside }
-    ensures goes { (precheck : Bool) → StepGoes V.told V.may_leave V.faults precheck IsOutside client.old core.old.regions.items core.old.system.state core.old.vault (is_ok result) client.new core.new.regions.items core.new.system.state core.new.vault }
+    ensures goes { (precheck : Bool) → StepGoes V.Store precheck IsOutside client.old core.old.regions.items core.old.system.state core.old.vault (is_ok result) client.new core.new.regions.items core.new.system.state core.new.vault }
     ensures places { PlacesGo V.told IsOutside core.old.regions.items core.old.vault client.new.state core.new.regions.items core.new.vault }
     ensures on { IfOk result (λ went. went ≡ true) }
     ensures word { (was : RegionState) → slice_get core.old.regions.items region ≡ Some was → OnOk result (core.new.regions.items ≡ slice_set core.old.regions.items region (poked word mask was)) }

@@ -1,9 +1,9 @@
 //! How transactions end.
 ghost use Rattle.std.specs.Prelude.{◌≡◌, ◌+◌, ◌<◌, [], ◌∷◌, Bool, true, Some, None, Ok, Err, is_ok, map, OnOk, OnErr, IfOk, IfSome, IsSome};
 ghost use Rattle.dali_calls.specs.Flags.{FlagsStay};
-ghost use Rattle.dali_clients.specs.declared.command.Command.TheVariants.{Abort as IsAbort};
-ghost use Rattle.dali_clients.specs.declared.line.Line.TheVariants.{Busy as IsBusy, LeftOpen as IsLeftOpen};
-ghost use Rattle.dali_clients.specs.Told.{act_of};
+ghost use Rattle.dali_transcripts.specs.declared.clients.command.Command.TheVariants.{Abort as IsAbort};
+ghost use Rattle.dali_transcripts.specs.declared.clients.line.Line.TheVariants.{Busy as IsBusy, LeftOpen as IsLeftOpen};
+ghost use Rattle.dali_transcripts.specs.Clients.Told.{act_of};
 ghost use Rattle.dali_transcripts.specs.Moves.{behind_close as acts_behind};
 ghost use Rattle.dali_turns.specs.declared.client.State.TheVariants.{Outside as IsOutside, Within as IsWithin, Waiting as IsWaiting};
 ghost use Rattle.dali_turns.specs.Clients.{next_of, Passes, Finishes};
@@ -15,11 +15,11 @@ ghost use Rattle.dali_turns.specs.Refuses.{SaysLine, SaysStop};
 use crate::client::{Client, State, Transaction};
 use crate::run::no_run;
 use dali_bytes::OutOfMemory;
-use dali_clients::{Command, Line, Why};
-use dali_ends::AbortError;
+use dali_core::Core;
+use dali_runs::Cause;
 use dali_store::Store;
-use dali_system::Cause;
-use dali_whole::Core;
+use dali_transactions::AbortError;
+use dali_transcripts::clients::{Command, Line, Why};
 
 // How often a transaction is tried that gets Busy.
 const MAX_TRIES: u32 = 1000;
@@ -30,10 +30,10 @@ fn take_back<V: Store>(core: &mut Core<V>, txn: u64) -> Result<Option<Cause>, Ou
     ensures flags { FlagsStay core.old.regions.items core.new.regions.items }
     ensures stopped { IfSome core.old.system.state.stop (λ cause. core.new ≡ core.old) }
     ensures known { IfOk result (λ o. o ≡ core.old.system.state.stop) }
-    ensures away { core.old.system.state.stop ≡ None → OnOk result (IsTakenBack V.told V.may_leave V.faults txn core.old.regions.items core.old.system.state core.old.vault core.new.regions.items core.new.system.state) }
-    ensures half { OnErr result ((core.old.system.state.stop ≡ None) × IsHalfBack V.told V.may_leave V.faults txn core.old.regions.items core.old.system.state core.old.vault core.new.regions.items core.new.system.state) }
+    ensures away { core.old.system.state.stop ≡ None → OnOk result (IsTakenBack V.Store txn core.old.regions.items core.old.system.state core.old.vault core.new.regions.items core.new.system.state) }
+    ensures half { OnErr result ((core.old.system.state.stop ≡ None) × IsHalfBack V.Store txn core.old.regions.items core.old.system.state core.old.vault core.new.regions.items core.new.system.state) }
 {
-    match dali_ends::abort(core, txn) {
+    match dali_transactions::abort(core, txn) {
         Ok(()) => Ok(None),
         Err(AbortError::Stopped { cause }) => Ok(Some(cause)),
         Err(AbortError::OutOfMemory) => Err(OutOfMemory),
@@ -82,7 +82,7 @@ pub(crate) fn abort<V: Store>(
 ) -> Result<bool, OutOfMemory>
     requires stands { client.old.state ≡ IsOutside }
     requires next { next_of client.old ≡ Some IsAbort }
-    ensures goes { (precheck : Bool) → StepGoes V.told V.may_leave V.faults precheck (IsWithin transaction.entry) client.old core.old.regions.items core.old.system.state core.old.vault (is_ok result) client.new core.new.regions.items core.new.system.state core.new.vault }
+    ensures goes { (precheck : Bool) → StepGoes V.Store precheck (IsWithin transaction.entry) client.old core.old.regions.items core.old.system.state core.old.vault (is_ok result) client.new core.new.regions.items core.new.system.state core.new.vault }
     ensures places { PlacesGo V.told (IsWithin transaction.entry) core.old.regions.items core.old.vault client.new.state core.new.regions.items core.new.vault }
     ensures on { IfOk result (λ went. went ≡ true) }
     ensures vault { core.new.vault ≡ core.old.vault }
@@ -100,7 +100,7 @@ pub(crate) fn end<V: Store>(
 ) -> Result<bool, OutOfMemory>
     requires stands { client.old.state ≡ IsOutside }
     requires next { next_of client.old ≡ None }
-    ensures goes { (precheck : Bool) → StepGoes V.told V.may_leave V.faults precheck (IsWithin transaction.entry) client.old core.old.regions.items core.old.system.state core.old.vault (is_ok result) client.new core.new.regions.items core.new.system.state core.new.vault }
+    ensures goes { (precheck : Bool) → StepGoes V.Store precheck (IsWithin transaction.entry) client.old core.old.regions.items core.old.system.state core.old.vault (is_ok result) client.new core.new.regions.items core.new.system.state core.new.vault }
     ensures places { PlacesGo V.told (IsWithin transaction.entry) core.old.regions.items core.old.vault client.new.state core.new.regions.items core.new.vault }
     ensures on { IfOk result (λ went. went ≡ true) }
     ensures vault { core.new.vault ≡ core.old.vault }
@@ -149,7 +149,7 @@ pub(crate) fn give_way<'a, V: Store>(
 ) -> Result<bool, OutOfMemory>
     requires stands { client.old.state ≡ IsOutside }
     ensures on { IfOk result (λ went. went ≡ true) }
-    ensures goes { (precheck : Bool) → YieldGoes V.told V.may_leave V.faults precheck transaction.entry holder client.old core.old.regions.items core.old.system.state core.old.vault (is_ok result) client.new core.new.regions.items core.new.system.state core.new.vault }
+    ensures goes { (precheck : Bool) → YieldGoes V.Store precheck transaction.entry holder client.old core.old.regions.items core.old.system.state core.old.vault (is_ok result) client.new core.new.regions.items core.new.system.state core.new.vault }
     ensures places { PlacesGo V.told (IsWithin transaction.entry) core.old.regions.items core.old.vault client.new.state core.new.regions.items core.new.vault }
     ensures vault { core.new.vault ≡ core.old.vault }
 {

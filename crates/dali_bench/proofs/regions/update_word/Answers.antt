@@ -1,5 +1,5 @@
 use Rattle.std.proofs.Common.{false}
-use Rattle.dali_core.proofs.UnderWays.{latched_unheld}
+use Rattle.dali_system.proofs.UnderWays.{latched_unheld}
 use Rattle.dali_bench.proofs.Holding.{has_read}
 use Rattle.dali_bench.proofs.regions.update_word.Goals as goal
 

@@ -1,5 +1,5 @@
 use Rattle.std.proofs.Common.{◌∙◌, ap}
-use Rattle.dali_core.specs.declared.take_back.TakeBack.{TakeBack}
+use Rattle.dali_system.specs.declared.take_back.TakeBack.{TakeBack}
 use Rattle.dali_calls.proofs.Operating.{more_written, still_same}
 use Rattle.dali_calls.proofs.writing.write_back.Goals as goal
 

@@ -1,5 +1,5 @@
 use Rattle.std.proofs.Common.{◌≡◌, IsSomeAnd, IfSome}
-use Rattle.dali_core.specs.UnderWay.{OneIsUnderWay}
+use Rattle.dali_system.specs.UnderWay.{OneIsUnderWay}
 use Rattle.dali_calls.specs.Operating.{AreWritten}
 use Rattle.dali_calls.proofs.Operating.{words_left}
 use Rattle.dali_calls.proofs.writing.write_back.Given as goal

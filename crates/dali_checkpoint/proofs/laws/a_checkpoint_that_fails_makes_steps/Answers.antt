@@ -3,11 +3,11 @@ use Rattle.dali_checkpoint.proofs.laws.a_checkpoint_that_fails_makes_steps.Goals
 
 pub returns : goal.returns
 returns g c = record {
-  start = start_faults g.V.Store.told g.V.Store.may_leave g.V.Store.faults;
-  copy = copy_faults_end g.V.Store.told g.V.Store.may_leave g.V.Store.faults;
-  run = run_faults_end g.V.Store.told g.V.Store.may_leave g.V.Store.faults;
-  settle = settle_faults g.V.Store.told g.V.Store.may_leave g.V.Store.faults;
-  certify = certify_faults g.V.Store.told g.V.Store.may_leave g.V.Store.faults;
-  audit = failure_ends g.V.Store.told g.V.Store.may_leave g.V.Store.faults;
-  given_up = gave_up g.V.Store.told g.V.Store.may_leave g.V.Store.faults;
+  start = start_faults g.V.Store;
+  copy = copy_faults_end g.V.Store;
+  run = run_faults_end g.V.Store;
+  settle = settle_faults g.V.Store;
+  certify = certify_faults g.V.Store;
+  audit = failure_ends g.V.Store;
+  given_up = gave_up g.V.Store;
 }

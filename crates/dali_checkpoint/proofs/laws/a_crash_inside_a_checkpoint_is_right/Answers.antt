@@ -3,9 +3,9 @@ use Rattle.dali_checkpoint.proofs.laws.a_crash_inside_a_checkpoint_is_right.Goal
 
 pub returns : goal.returns
 returns g c = record {
-  start = start_right g.V.Store.told g.V.Store.may_leave g.V.Store.faults;
-  copy = copy_right g.V.Store.told g.V.Store.may_leave g.V.Store.faults;
-  settle = settle_right g.V.Store.told g.V.Store.may_leave g.V.Store.faults;
-  certify = certify_right g.V.Store.told g.V.Store.may_leave g.V.Store.faults;
-  failure = failure_right g.V.Store.told g.V.Store.may_leave g.V.Store.faults;
+  start = start_right g.V.Store;
+  copy = copy_right g.V.Store;
+  settle = settle_right g.V.Store;
+  certify = certify_right g.V.Store;
+  failure = failure_right g.V.Store;
 }

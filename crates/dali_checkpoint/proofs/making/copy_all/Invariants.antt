@@ -5,8 +5,8 @@ use Rattle.dali_checkpoint.proofs.making.copy_all.Given as goal
 
 abbrev pub invariant-loop-regions : goal.invariant-loop-regions
 invariant-loop-regions g l = record {
-  copies : CopiesTo g.V.Store.told g.V.Store.may_leave g.V.Store.faults g.V.Store.lets_pass l.fn.checkpoint l.fn.regions l.fn.vault l.checkpoint l.regions l.vault;
-  right : CopiesStayRight g.V.Store.told g.V.Store.may_leave g.V.Store.faults g.V.Store.moment g.V.Store.left_since l.fn.regions l.fn.vault l.fn.checkpoint l.vault;
+  copies : CopiesTo g.V.Store l.fn.checkpoint l.fn.regions l.fn.vault l.checkpoint l.regions l.vault;
+  right : CopiesStayRight g.V.Store l.fn.regions l.fn.vault l.fn.checkpoint l.vault;
 }
 
 abbrev pub decreases-loop-regions : goal.decreases-loop-regions

@@ -1,8 +1,8 @@
 use Rattle.std.proofs.Common.{◌≡◌, ◌≤◌, ◌+◌, ◌-◌, List, IfSome, length, sym, subst, ◌∙◌, arith}
 use Rattle.dali_region.specs.State.{RegionState}
-use Rattle.dali_traces.specs.Disks.{image_file}
-use Rattle.dali_traces.specs.Places.{place_of}
-use Rattle.dali_whole.specs.Cores.{HoldsPlaces}
+use Rattle.dali_crash.specs.Disks.Disks.{image_file}
+use Rattle.dali_crash.specs.Disks.Places.{place_of}
+use Rattle.dali_core.specs.Cores.{HoldsPlaces}
 use Rattle.dali_checkpoint.proofs.Lengths.{run_places, clear_reaches}
 use Rattle.dali_checkpoint.proofs.Pieces.{flag_first, clean_run_same}
 use Rattle.dali_checkpoint.proofs.parts.next_run.Goals as goal

@@ -1,5 +1,5 @@
 use Rattle.std.proofs.Common.{length}
-use Rattle.dali_traces.specs.Disks.{image_name}
+use Rattle.dali_crash.specs.Disks.Disks.{image_name}
 use Rattle.dali_checkpoint.proofs.Lengths.{torn_length}
 use Rattle.dali_checkpoint.proofs.parts.write.Goals as goal
 

@@ -1,4 +1,4 @@
-use Rattle.dali_traces.specs.Disks.{image_name}
+use Rattle.dali_crash.specs.Disks.Disks.{image_name}
 use Rattle.dali_checkpoint.proofs.Lengths.{torn_unless_stopped}
 use Rattle.dali_checkpoint.proofs.parts.write_run.Goals as goal
 

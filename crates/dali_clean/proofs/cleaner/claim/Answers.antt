@@ -1,5 +1,5 @@
 use Rattle.std.proofs.Common.{ap, refl}
-use Rattle.dali_core.specs.Served.{Served}
+use Rattle.dali_system.specs.Served.{Served}
 use Rattle.dali_clean.proofs.Flags.{recovered_flags}
 use Rattle.dali_calls.proofs.Flags.{flags_same}
 use Rattle.dali_clean.proofs.Cleaning.{left_there, claimed}

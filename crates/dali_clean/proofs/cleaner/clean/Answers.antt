@@ -1,5 +1,5 @@
 use Rattle.std.proofs.Common.{ap, None}
-use Rattle.dali_core.specs.Served.{Served}
+use Rattle.dali_system.specs.Served.{Served}
 use Rattle.dali_calls.proofs.Flags.{flags_further}
 use Rattle.dali_calls.proofs.Others.{promises_same, promises_further}
 use Rattle.dali_clean.proofs.Cleaning.{ends_so, given_back}

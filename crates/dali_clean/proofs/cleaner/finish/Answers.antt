@@ -1,6 +1,6 @@
 use Rattle.std.proofs.Common.{ap, refl, ◌∙◌}
-use Rattle.dali_core.specs.Served.{Served}
-use Rattle.dali_core.specs.Promised.{Promised}
+use Rattle.dali_system.specs.Served.{Served}
+use Rattle.dali_system.specs.Promised.{Promised}
 use Rattle.std.specs.FinMap.{remove}
 use Rattle.dali_calls.proofs.Others.{ended_gone, promises_same, promises_ended}
 use Rattle.dali_clean.proofs.Others.{others_further, others_same, ended_others, kept_further, kept_same}

@@ -2,7 +2,7 @@ use Rattle.std.proofs.Common.{◌∙◌, ap, refl, slice_set}
 use Rattle.std.proofs.lemmas.List.{get_or-set_same}
 use Rattle.std.proofs.lemmas.Option.{slice_get-get_or}
 use Rattle.dali_region.specs.State.{RegionState}
-use Rattle.dali_core.specs.declared.take_back.TakeBack.{TakeBack}
+use Rattle.dali_system.specs.declared.take_back.TakeBack.{TakeBack}
 use Rattle.dali_calls.proofs.Flags.{flags_same, flags_set, flags_further, undone_flag, taken_back_flag}
 use Rattle.dali_calls.proofs.Undoing.{none_wanted}
 use Rattle.dali_clean.proofs.Steps.{stays}

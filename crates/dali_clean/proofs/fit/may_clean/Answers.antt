@@ -3,7 +3,7 @@ use Rattle.std.specs.List.{list_all}
 use Rattle.dali_geometry.specs.Places.{regions as regions_of}
 use Rattle.dali_att.specs.declared.state.State.{State}
 use Rattle.dali_att.specs.Table.{undos_at}
-use Rattle.dali_system.specs.Wholes.{is_of_kind, latched_in}
+use Rattle.dali_runs.specs.Wholes.{is_of_kind, latched_in}
 use Rattle.dali_clean.specs.Fit.{IsNamed, StandSo}
 use Rattle.dali_clean.proofs.Fitting.{fits, stand_fit}
 use Rattle.dali_clean.proofs.fit.may_clean.Goals as goal

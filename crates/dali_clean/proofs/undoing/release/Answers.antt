@@ -1,5 +1,5 @@
 use Rattle.std.proofs.Common.{ap}
-use Rattle.dali_core.specs.Served.{Served}
+use Rattle.dali_system.specs.Served.{Served}
 use Rattle.dali_clean.proofs.Cleaning.{may_die}
 use Rattle.dali_clean.proofs.undoing.release.Goals as goal
 

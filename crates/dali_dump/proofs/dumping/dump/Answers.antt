@@ -2,7 +2,7 @@ use Rattle.std.proofs.Common.{rules, ◌≡◌, ◌++◌, ◌∙◌, ℕ, List, 
 use Rattle.std.specs.Prelude.{IsNone}
 use Rattle.std.proofs.lemmas.Result.{err_from_is_err_and}
 use Rattle.dali_lists.proofs.Options.{if_some_then}
-use Rattle.dali_batch.proofs.Finds.{if_some_two, if_some_same}
+use Rattle.dali_log.proofs.Finds.{if_some_two, if_some_same}
 use Rattle.dali_dump.proofs.Causes.{log_bad}
 use Rattle.dali_dump.proofs.Numbered.{first_dumped, dumps_next, all_dumped, dump_bad}
 use Rattle.dali_record.specs.declared.records.Record.TheVariants.{Format}
@@ -24,15 +24,15 @@ returns-clause-dump g c =
 
 pub records-preserved : goal.records-preserved
 records-preserved g c =
-    dumps_next _ _ _ _ _ _ _ _ _ _ c.in-Some.next _ _ _ _ _ c.records.invariant c.in_ok-next.ensures.read c.in-Some.is c.in_ok-put_line-2.ensures c.next.ensures.whole (search rules) c.next.ensures.store.reads (search rules) (search rules)
+    dumps_next _ _ _ _ _ c.in-Some.next _ _ _ _ _ c.records.invariant c.in_ok-next.ensures.read c.in-Some.is c.in_ok-put_line-2.ensures c.next.ensures.whole (search rules) c.next.ensures.store.reads (search rules) (search rules)
 
 pub records-preserved-in_ok-put_line-2 : goal.records-preserved-in_ok-put_line-2
 records-preserved-in_ok-put_line-2 g c =
-    dumps_next _ _ _ _ _ _ _ _ _ _ c.in-Some.next _ _ _ _ _ c.records.invariant c.in_ok-next.ensures.read c.in-Some.is c.in_ok-put_line-2.ensures c.next.ensures.whole (search rules) c.next.ensures.store.reads (search rules) (search rules)
+    dumps_next _ _ _ _ _ c.in-Some.next _ _ _ _ _ c.records.invariant c.in_ok-next.ensures.read c.in-Some.is c.in_ok-put_line-2.ensures c.next.ensures.whole (search rules) c.next.ensures.store.reads (search rules) (search rules)
 
 pub records-preserved-in_ok-put_line-2-2 : goal.records-preserved-in_ok-put_line-2-2
 records-preserved-in_ok-put_line-2-2 g c =
-    dumps_next _ _ _ _ _ _ _ _ _ _ c.in-Some.next _ _ _ _ _ c.records.invariant c.in_ok-next.ensures.read c.in-Some.is c.in_ok-put_line-2.ensures c.next.ensures.whole (search rules) c.next.ensures.store.reads (search rules) (search rules)
+    dumps_next _ _ _ _ _ c.in-Some.next _ _ _ _ _ c.records.invariant c.in_ok-next.ensures.read c.in-Some.is c.in_ok-put_line-2.ensures c.next.ensures.whole (search rules) c.next.ensures.store.reads (search rules) (search rules)
 
 pub records-init : goal.records-init
 records-init g c =

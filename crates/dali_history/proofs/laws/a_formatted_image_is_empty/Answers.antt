@@ -1,4 +1,4 @@
-use Rattle.dali_index.proofs.Forms.{formatted_is_image, formatted_is_indexed, formatted_is_tidy}
+use Rattle.dali_access.proofs.IndexLemmas.Forms.{formatted_is_image, formatted_is_indexed, formatted_is_tidy}
 use Rattle.dali_history.proofs.Formatted.{formatted_has_none}
 use Rattle.dali_history.proofs.laws.a_formatted_image_is_empty.Goals as goal
 

@@ -2,7 +2,7 @@ use Rattle.std.proofs.Common.{◌≡◌, length, arith}
 use Rattle.std.proofs.lemmas.Bool.Decides.{nat_tests}
 use Rattle.dali_lists.proofs.Options.{if_some_then}
 use Rattle.dali_store.specs.Store.{file_of}
-use Rattle.dali_batch.proofs.Finds.{filled}
+use Rattle.dali_log.proofs.Finds.{filled}
 use Rattle.dali_image.proofs.parts.fill.Goals as goal
 
 pub returns-clause-whole : goal.returns-clause-whole

@@ -1,8 +1,8 @@
 use Rattle.std.proofs.Common.{◌≡◌, ◌∙◌, ◌≤◌, Err, length, subst, ap, arith}
 use Rattle.dali_lists.proofs.Options.{if_some_then}
 use Rattle.dali_store.specs.Store.{file_of}
-use Rattle.dali_traces.specs.Disks.{image_name}
-use Rattle.dali_traces.specs.Places
+use Rattle.dali_crash.specs.Disks.Disks.{image_name}
+use Rattle.dali_crash.specs.Disks.Places
 use Rattle.dali_image.specs.Decoding.{Fails, table_in}
 use Rattle.dali_image.proofs.Bounds.{bad_within}
 use Rattle.dali_image.proofs.Undos.{are_undos, table_read}

@@ -1,6 +1,6 @@
 use Rattle.std.proofs.Common.{◌≡◌, ◌++◌, drop}
 use Rattle.std.specs.Prelude.{flat_map}
-use Rattle.dali_traces.specs.Disks.{pending_bytes}
+use Rattle.dali_crash.specs.Disks.Disks.{pending_bytes}
 use Rattle.dali_image.proofs.table.put_undos.Given as goal
 
 abbrev pub invariant-loop-pending : goal.invariant-loop-pending

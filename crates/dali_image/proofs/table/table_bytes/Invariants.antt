@@ -1,7 +1,7 @@
 use Rattle.std.proofs.Common.{◌≡◌, ◌++◌, drop, length}
 use Rattle.std.specs.Prelude.{flat_map, map}
 use Rattle.dali_bytes.specs.Fields.{number32}
-use Rattle.dali_traces.specs.Disks.{row_bytes}
+use Rattle.dali_crash.specs.Disks.Disks.{row_bytes}
 use Rattle.dali_image.specs.Rows.{row_at}
 use Rattle.dali_image.proofs.table.table_bytes.Given as goal
 

@@ -1,5 +1,5 @@
 use Rattle.std.proofs.Common.{◌≡◌, ◌∙◌, ◌+◌, ℕ, refl, ap, arith}
-use Rattle.dali_index.specs.Records.{words_of}
+use Rattle.dali_access.specs.Index.Records.{words_of}
 use Rattle.dali_listing.specs.Listing.{in_memory}
 use Rattle.dali_inspect.specs.Counts.{live_cells}
 use Rattle.dali_inspect.proofs.Sums.{none_yet, one_more}

@@ -1,5 +1,5 @@
 use Rattle.std.proofs.Common.{◌≡◌, ◌≤◌, ◌*◌, ℕ}
-use Rattle.dali_index.specs.Records.{words_of}
+use Rattle.dali_access.specs.Index.Records.{words_of}
 use Rattle.dali_listing.specs.Listing.{in_memory}
 use Rattle.dali_inspect.specs.Counts.{live_entries, sum_below}
 use Rattle.dali_inspect.proofs.counting.entries_in_use.Given as goal

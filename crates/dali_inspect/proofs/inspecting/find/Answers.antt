@@ -1,6 +1,6 @@
 use Rattle.std.proofs.Common.{◌∙◌, sym, subst}
 use Rattle.dali_store.specs.Store.{Files as Disk}
-use Rattle.dali_batch.specs.Batch.{IsUnformatted}
+use Rattle.dali_log.specs.Batch.{IsUnformatted}
 use Rattle.dali_restart.specs.Restarting.{Gives, IsBadAnywhere, IsReadAs, outcome}
 use Rattle.dali_inspect.specs.Inspected.{IsTooLong, Weighs}
 use Rattle.dali_inspect.proofs.Told.{bad_as, long_as, unformatted_as, weighs}
@@ -25,5 +25,5 @@ returns-clause-inspected c =
       gives = subst (λ (d : Disk). Gives d (outcome made.0.regions.items made.1)) same c.in-Ok-restart.ensures.gives;
       read = subst (λ (d : Disk). IsReadAs d (outcome made.0.regions.items made.1)) same c.in-Ok-restart.ensures.read;
       image = c.in-Ok.ensures.image;
-      log = subst (λ (d : Disk). Weighs d c.end-end.result) same (weighs _ _ _ _ _ _ made.0.system.state _ c.end-end.result c.end-end.ensures c.in-Ok-restart.ensures.begins);
+      log = subst (λ (d : Disk). Weighs d c.end-end.result) same (weighs _ _ _ _ made.0.system.state _ c.end-end.result c.end-end.ensures c.in-Ok-restart.ensures.begins);
     }

@@ -1,7 +1,7 @@
 use Rattle.std.proofs.Common.{◌≡◌, ℕ, IfSome}
 use Rattle.dali_store.specs.Store.{Files as Disk}
 use Rattle.dali_store.specs.declared.store.FileName.{FileName}
-use Rattle.dali_batch.specs.Batch.{IsUnformatted}
+use Rattle.dali_log.specs.Batch.{IsUnformatted}
 use Rattle.dali_memstore.specs.Memory.{files_of}
 use Rattle.dali_restart.specs.Restarting.{IsBadAnywhere}
 use Rattle.dali_inspect.specs.declared.error.InspectError.{InspectError}

@@ -1,5 +1,5 @@
 use Rattle.std.proofs.Common.{◌≡◌, ◌∷◌, map}
-use Rattle.dali_index.specs.Records.{below}
+use Rattle.dali_access.specs.Index.Records.{below}
 use Rattle.dali_script.specs.declared.commands.Command.TheVariants.{Size}
 use Rattle.dali_load.specs.Scripts.{group_at, round_of}
 use Rattle.dali_load.proofs.building.script_of.Given as goal

@@ -1,6 +1,6 @@
 use Rattle.std.proofs.Common.{◌≡◌, ◌++◌, ◌∙◌, ap, arith}
 use Rattle.std.specs.Prelude.{codes, flat_map}
-use Rattle.dali_index.specs.Records.{below}
+use Rattle.dali_access.specs.Index.Records.{below}
 use Rattle.dali_load.specs.Answers.{lines_at}
 use Rattle.dali_load.specs.Scripts.{groups}
 use Rattle.dali_load.proofs.judging.expected.Goals as goal

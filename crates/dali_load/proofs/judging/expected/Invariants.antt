@@ -1,6 +1,6 @@
 use Rattle.std.proofs.Common.{◌≡◌}
 use Rattle.std.specs.Prelude.{flat_map}
-use Rattle.dali_index.specs.Records.{below}
+use Rattle.dali_access.specs.Index.Records.{below}
 use Rattle.dali_load.specs.Answers.{lines_at}
 use Rattle.dali_load.proofs.judging.expected.Given as goal
 

@@ -1,6 +1,6 @@
 use Rattle.std.proofs.Common.{◌≡◌, ◌++◌, take, drop}
 use Rattle.std.specs.Prelude.{fold, map}
-use Rattle.dali_heap.specs.Cells as cell
+use Rattle.dali_access.specs.Heap.Cells as cell
 use Rattle.dali_history.specs.Recovered.{free_word}
 use Rattle.dali_redo.proofs.image.free_heap.Given as goal
 

@@ -1,5 +1,5 @@
 use Rattle.std.specs.Prelude.{fold, map}
-use Rattle.dali_index.specs.Entries as entry
+use Rattle.dali_access.specs.Index.Entries as entry
 use Rattle.dali_history.specs.Recovered.{free_word}
 use Rattle.dali_redo.proofs.Writes.{one_more_in}
 use Rattle.dali_redo.proofs.image.free_index.Goals as goal

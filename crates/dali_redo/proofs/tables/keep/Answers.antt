@@ -1,6 +1,6 @@
 use Rattle.std.proofs.Common.{sym, subst, ap, ◌∙◌, IsSome}
 use Rattle.std.specs.FinMap.{get}
-use Rattle.dali_taint.proofs.Lists.{present}
+use Rattle.dali_redo.proofs.TaintLemmas.Lists.{present}
 use Rattle.dali_redo.specs.Tables.{AddsAll}
 use Rattle.dali_redo.proofs.Copies.{copied, removed_fresh}
 use Rattle.dali_redo.proofs.tables.keep.Goals as goal

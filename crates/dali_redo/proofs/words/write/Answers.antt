@@ -2,7 +2,7 @@ use Rattle.std.proofs.Common.{rules, ◌≡◌, ◌∙◌, ap, sym, arith, subst
 use Rattle.std.specs.Prelude.{bit_and}
 use Rattle.std.specs.Int.Count.{count_trailing_zeros}
 use Rattle.dali_words.specs.Words.{write_under}
-use Rattle.dali_core.proofs.Lowest.{lowest_write}
+use Rattle.dali_system.proofs.Lowest.{lowest_write}
 use Rattle.dali_words.proofs.Writes.{write_nothing}
 use Rattle.dali_redo.proofs.Writes.{write_none, next_one, none_left}
 use Rattle.dali_redo.proofs.words.write.Goals as goal

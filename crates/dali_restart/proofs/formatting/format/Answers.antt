@@ -12,6 +12,6 @@ returns-in-Ok-clause-whole g c =
 
 pub returns-in-Ok-clause-begins : goal.returns-in-Ok-clause-begins
 returns-in-Ok-clause-begins g c =
-    run_begins g.V.Store.told g.V.Store.may_leave g.V.Store.faults c.args.geometry c.args.limit c.in-Ok.made.regions.items c.in-Ok.made.system c.make_in.new.store c.in-Ok.end c.new.result c.args.store
+    run_begins g.V.Store c.args.geometry c.args.limit c.in-Ok.made.regions.items c.in-Ok.made.system c.make_in.new.store c.in-Ok.end c.new.result c.args.store
     (is_new c.args.geometry c.args.limit c.in-Ok.made.regions.items c.in-Ok.made.system c.make_in.new.store c.in-Ok.end c.new.result c.in-Ok.ensures.regions c.in-Ok.ensures.system c.in-Ok.ensures.end c.new.ensures)
     c.new.ensures c.requires c.in-Ok.ensures.spelled c.make_in.ensures.tells c.in-Ok.ensures.makes

@@ -2,7 +2,7 @@ use Rattle.std.proofs.Common.{◌≡◌, sym, subst, ◌∙◌}
 use Rattle.std.specs.Prelude.{IfSome}
 use Rattle.dali_region.specs.declared.Side.{Side}
 use Rattle.dali_store.specs.Store.{file_of}
-use Rattle.dali_traces.specs.Disks.{image_name}
+use Rattle.dali_crash.specs.Disks.Disks.{image_name}
 use Rattle.dali_restart.specs.Opening.{BadImageAt, expected}
 use Rattle.dali_restart.proofs.Causes.{image_bad}
 use Rattle.dali_restart.proofs.Finding.{found_bad, stands_in_range}

@@ -1,7 +1,7 @@
 use Rattle.std.proofs.Common.{inl, inr, sym, ◌∙◌}
 use Rattle.dali_lists.proofs.Options.{if_some_then}
 use Rattle.dali_geometry.specs.Sizes.{Sizes}
-use Rattle.dali_batch.proofs.Finds.{if_some_two, if_some_same}
+use Rattle.dali_log.proofs.Finds.{if_some_two, if_some_same}
 use Rattle.dali_restart.proofs.Causes.{log_bad, image_bad}
 use Rattle.dali_restart.proofs.Finding.{begins_with}
 use Rattle.dali_restart.proofs.opening.read_first.Goals as goal

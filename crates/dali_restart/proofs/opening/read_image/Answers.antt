@@ -1,5 +1,5 @@
 use Rattle.dali_store.specs.Store.{file_of}
-use Rattle.dali_traces.specs.Disks.{image_name}
+use Rattle.dali_crash.specs.Disks.Disks.{image_name}
 use Rattle.dali_restart.proofs.Finding.{table_bad}
 use Rattle.dali_restart.proofs.opening.read_image.Goals as goal
 

@@ -1,6 +1,6 @@
 use Rattle.std.proofs.Common.{arith, subst}
 use Rattle.dali_record.specs.Blocks.{AllAreWords}
-use Rattle.dali_batch.proofs.Finds.{if_some_two}
+use Rattle.dali_log.proofs.Finds.{if_some_two}
 use Rattle.dali_restart.proofs.Passing.{begun_in, has_room}
 use Rattle.dali_restart.proofs.restarting.begin.Goals as goal
 

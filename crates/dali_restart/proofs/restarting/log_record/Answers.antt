@@ -1,8 +1,8 @@
 use Rattle.std.proofs.Common.{None, refl, sym, ap, subst, ◌∙◌, arith}
 use Rattle.dali_lists.proofs.Options.{if_some_then}
-use Rattle.dali_traces.specs.Anchors.{AreAnchored}
-use Rattle.dali_renewal.specs.Logged.{restart_length}
-use Rattle.dali_renewal.specs.Renewed.{end_of}
+use Rattle.dali_log.specs.Anchors.{AreAnchored}
+use Rattle.dali_restart.specs.Renewal.Logged.{restart_length}
+use Rattle.dali_restart.specs.Renewal.Renewed.{end_of}
 use Rattle.dali_restart.specs.Deciding.{at_end}
 use Rattle.dali_restart.proofs.Due.{are_anchored, closed_there, logs_record, next_is, not_longer, record_is_small, written_at}
 use Rattle.dali_restart.proofs.restarting.log_record.Goals as goal

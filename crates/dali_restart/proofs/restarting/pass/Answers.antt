@@ -1,6 +1,6 @@
 use Rattle.std.proofs.Common.{inl, sym, ◌∙◌}
 use Rattle.dali_lists.proofs.Options.{if_some_then}
-use Rattle.dali_batch.proofs.Finds.{if_some_same, if_some_two}
+use Rattle.dali_log.proofs.Finds.{if_some_same, if_some_two}
 use Rattle.dali_restart.proofs.Passing.{finds_next, read_in, reload_bad, tail_bad}
 use Rattle.dali_restart.proofs.restarting.pass.Goals as goal
 

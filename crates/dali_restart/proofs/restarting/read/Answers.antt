@@ -1,6 +1,6 @@
 use Rattle.std.proofs.Common.{◌≡◌, [], ◌∷◌, ◌++◌, IfSome, rules, refl, sym, subst, arith}
-use Rattle.dali_batch.proofs.Finds.{if_some_any, if_some_same, if_some_two}
-use Rattle.dali_batch.proofs.Readings.{reads_then}
+use Rattle.dali_log.proofs.Finds.{if_some_any, if_some_same, if_some_two}
+use Rattle.dali_log.proofs.Readings.{reads_then}
 use Rattle.dali_restart.specs.Deciding.{AreKnown, FindsNext}
 use Rattle.dali_restart.proofs.Passing.{comes_further, none_told, nothing_known, one_more_known}
 use Rattle.dali_restart.proofs.restarting.read.Goals as goal

@@ -1,6 +1,6 @@
 use Rattle.std.proofs.Common.{◌≡◌, ◌-◌, ◌^◌, IfSome}
 use Rattle.dali_store.specs.Calls.{PassesFewer}
-use Rattle.dali_batch.specs.Reads.{OnlyReads}
+use Rattle.dali_log.specs.Reads.{OnlyReads}
 use Rattle.dali_restart.specs.Deciding.{AreKnown}
 use Rattle.dali_restart.proofs.restarting.read.Given as goal
 

@@ -1,7 +1,7 @@
 use Rattle.std.proofs.Common.{Err, map, sym, ap, subst, ◌∙◌}
 use Rattle.dali_lists.proofs.Options.{if_some_then}
-use Rattle.dali_batch.specs.Reads.{OnlyReads}
-use Rattle.dali_batch.proofs.Finds.{if_some_any, if_some_same, if_some_two}
+use Rattle.dali_log.specs.Reads.{OnlyReads}
+use Rattle.dali_log.proofs.Finds.{if_some_any, if_some_same, if_some_two}
 use Rattle.dali_recovery.specs.Laws.{outcome_of}
 use Rattle.dali_region.specs.State.{loaded}
 use Rattle.dali_restart.specs.declared.error.RestartError.TheVariants as errors
@@ -13,7 +13,7 @@ use Rattle.dali_restart.proofs.restarting.restart.Goals as goal
 -- the log isn't read
 pub returns-in-Err-clause-any_moment : goal.returns-in-Err-clause-any_moment
 returns-in-Err-clause-any_moment g c =
-    left_reading g.V.Store.told g.V.Store.may_leave g.V.Store.moment g.V.Store.left_since g.V.Store.faults g.V.Store.lets_pass c.args.store c.read.new.store c.read.ensures.store.reads c.read.ensures.store.later c.read.ensures.store.passes
+    left_reading g.V.Store c.args.store c.read.new.store c.read.ensures.store.reads c.read.ensures.store.later c.read.ensures.store.passes
 
 pub returns-in-Err-clause-none : goal.returns-in-Err-clause-none
 returns-in-Err-clause-none g c = if_some_any _ (g.V.Store.told c.args.store) (λ fs without. c.read.ensures.store.reads)
@@ -34,15 +34,15 @@ returns-in-Err-settle-clause-none g c = if_some_then _ _ (g.V.Store.told c.args.
 pub returns-in-Err-settle-clause-any_moment : goal.returns-in-Err-settle-clause-any_moment
 returns-in-Err-settle-clause-any_moment g c =
     let s = c.settle.new.store in
-    left_settling g.V.Store.told g.V.Store.may_leave g.V.Store.moment g.V.Store.left_since g.V.Store.faults g.V.Store.lets_pass c.args.store c.read.new.store s (g.met.V.Store.counts_now s) (g.met.V.Store.reads_now s)
+    left_settling g.V.Store c.args.store c.read.new.store s (g.met.V.Store.counts_now s) (g.met.V.Store.reads_now s)
     c.read.ensures.store.reads c.in-Ok.found c.in-Ok.ensures.ok c.settle.ensures.any_moment c.settle.ensures.store.tells c.read.ensures.store.later c.settle.ensures.store.later c.read.ensures.store.passes c.settle.ensures.store.passes
 
 -- no memory for a core
 pub returns-clause-any_moment : goal.returns-clause-any_moment
 returns-clause-any_moment g c =
     let s = c.settle.new.store in
-    subst (IsLeft g.V.Store.told g.V.Store.may_leave g.V.Store.moment g.V.Store.left_since g.V.Store.faults g.V.Store.lets_pass c.args.store) (sym c.in-Err-rise.ensures.refused)
-    (left_settling g.V.Store.told g.V.Store.may_leave g.V.Store.moment g.V.Store.left_since g.V.Store.faults g.V.Store.lets_pass c.args.store c.read.new.store s (g.met.V.Store.counts_now s) (g.met.V.Store.reads_now s)
+    subst (IsLeft g.V.Store c.args.store) (sym c.in-Err-rise.ensures.refused)
+    (left_settling g.V.Store c.args.store c.read.new.store s (g.met.V.Store.counts_now s) (g.met.V.Store.reads_now s)
     c.read.ensures.store.reads c.in-Ok.found c.in-Ok.ensures.ok c.settle.ensures.any_moment c.settle.ensures.store.tells c.read.ensures.store.later c.settle.ensures.store.later c.read.ensures.store.passes c.settle.ensures.store.passes)
 
 pub returns-clause-none : goal.returns-clause-none
@@ -65,19 +65,19 @@ pub returns-in-Ok-rise-clause-begins : goal.returns-in-Ok-rise-clause-begins
 returns-in-Ok-rise-clause-begins g c =
     let core = c.in-Ok-rise.core in
     if_some_two _ _ _ (g.V.Store.told c.args.store) c.in-Ok.ensures.ok (if_some_same _ _ _ c.read.ensures.store.reads.same c.in-Ok-settle.ensures.settles)
-    (λ fs is settles. begins_over g.V.Store.told g.V.Store.may_leave g.V.Store.faults c.args.limit c.requires.limit c.in-Ok.found c.in-Ok-settle.resting c.settle.new.store core.regions.items core.system core.vault _ c.deref.ensures.value c.in-Ok-rise.ensures.core c.in-Ok-rise.ensures.begins fs _ is settles)
+    (λ fs is settles. begins_over g.V.Store c.args.limit c.requires.limit c.in-Ok.found c.in-Ok-settle.resting c.settle.new.store core.regions.items core.system core.vault _ c.deref.ensures.value c.in-Ok-rise.ensures.core c.in-Ok-rise.ensures.begins fs _ is settles)
 
 pub returns-in-Ok-rise-clause-rests : goal.returns-in-Ok-rise-clause-rests
 returns-in-Ok-rise-clause-rests g c =
     let core = c.in-Ok-rise.core in
     if_some_two _ _ _ (g.V.Store.told c.args.store) c.in-Ok.ensures.ok (if_some_same _ _ _ c.read.ensures.store.reads.same c.in-Ok-settle.ensures.settles)
-    (λ fs is settles. rests_over g.V.Store.told g.V.Store.may_leave g.V.Store.faults c.args.limit c.requires.limit c.in-Ok.found c.in-Ok-settle.resting c.settle.new.store core.regions.items core.system core.vault _ c.deref.ensures.value c.in-Ok-rise.ensures.core c.in-Ok-rise.ensures.begins fs _ is settles)
+    (λ fs is settles. rests_over g.V.Store c.args.limit c.requires.limit c.in-Ok.found c.in-Ok-settle.resting c.settle.new.store core.regions.items core.system core.vault _ c.deref.ensures.value c.in-Ok-rise.ensures.core c.in-Ok-rise.ensures.begins fs _ is settles)
 
 pub returns-in-Ok-rise-clause-any_moment : goal.returns-in-Ok-rise-clause-any_moment
 returns-in-Ok-rise-clause-any_moment g c =
     let s = c.settle.new.store in
-    subst (IsLeft g.V.Store.told g.V.Store.may_leave g.V.Store.moment g.V.Store.left_since g.V.Store.faults g.V.Store.lets_pass c.args.store) (sym (ap (λ v. v.store) c.in-Ok-rise.ensures.core.vault))
-    (left_settling g.V.Store.told g.V.Store.may_leave g.V.Store.moment g.V.Store.left_since g.V.Store.faults g.V.Store.lets_pass c.args.store c.read.new.store s (g.met.V.Store.counts_now s) (g.met.V.Store.reads_now s)
+    subst (IsLeft g.V.Store c.args.store) (sym (ap (λ v. v.store) c.in-Ok-rise.ensures.core.vault))
+    (left_settling g.V.Store c.args.store c.read.new.store s (g.met.V.Store.counts_now s) (g.met.V.Store.reads_now s)
     c.read.ensures.store.reads c.in-Ok.found c.in-Ok.ensures.ok c.settle.ensures.any_moment c.settle.ensures.store.tells c.read.ensures.store.later c.settle.ensures.store.later c.read.ensures.store.passes c.settle.ensures.store.passes)
 
 pub returns-in-Ok-rise-clause-idle : goal.returns-in-Ok-rise-clause-idle

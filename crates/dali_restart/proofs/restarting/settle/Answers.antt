@@ -1,8 +1,8 @@
 use Rattle.std.proofs.Common.{◌≡◌, inl, sym, ap, subst, ◌∙◌}
 use Rattle.dali_lists.proofs.Options.{if_some_then}
 use Rattle.dali_store.proofs.Moments.{started}
-use Rattle.dali_batch.proofs.Finds.{if_some_any, if_some_two}
-use Rattle.dali_renewal.specs.Renewed.{AreReady}
+use Rattle.dali_log.proofs.Finds.{if_some_any, if_some_two}
+use Rattle.dali_restart.specs.Renewal.Renewed.{AreReady}
 use Rattle.dali_restart.specs.declared.restarting.Due.TheVariants as dues
 use Rattle.dali_restart.specs.Deciding.{IsSmallRest, LogsRecord, Settles, WritesImage, resting_of}
 use Rattle.dali_restart.proofs.Due.{are_ready, if_ok_both, rest_is_small}

@@ -1,6 +1,6 @@
 use Rattle.std.proofs.Common.{[], Some, refl, sym, ap, subst}
 use Rattle.dali_lists.proofs.Options.{if_some_then}
-use Rattle.dali_traces.specs.Anchors.{AreAnchored}
+use Rattle.dali_log.specs.Anchors.{AreAnchored}
 use Rattle.dali_restart.proofs.Due.{are_anchored, closed_there, same_current, written_at}
 use Rattle.dali_restart.proofs.restarting.write_image.Goals as goal
 

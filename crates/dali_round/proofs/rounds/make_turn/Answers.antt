@@ -8,15 +8,15 @@ use Rattle.dali_round.proofs.rounds.make_turn.Goals as goal
 
 pub returns-then-not-due : goal.returns-then-not-due
 returns-then-not-due g c = record {
-  goes = not_due g.V.Store.told g.V.Store.may_leave g.V.Store.faults c.args.setting.now.precheck c.args.client.now c.args.core.now.regions.items c.args.core.now.system.state c.args.core.now.vault;
+  goes = not_due g.V.Store c.args.setting.now.precheck c.args.client.now c.args.core.now.regions.items c.args.core.now.system.state c.args.core.now.vault;
   places = places_none g.V.Store.told c.args.client.now.state c.args.core.now.regions.items c.args.core.now.vault;
   idle = λ e. absurd (cc);
-  any_moment = stays_right g.V.Store.told g.V.Store.may_leave g.V.Store.faults g.V.Store.moment g.V.Store.left_since c.args.setting.now.precheck c.args.client.now c.args.core.now.regions.items c.args.core.now.system.state c.args.core.now.vault (λ d past. g.met.V.Store.only_now c.args.core.now.vault.store d past);
+  any_moment = stays_right g.V.Store c.args.setting.now.precheck c.args.client.now c.args.core.now.regions.items c.args.core.now.system.state c.args.core.now.vault (λ d past. g.met.V.Store.only_now c.args.core.now.vault.store d past);
 }
 
 pub returns-in-Ok-clause-goes : goal.returns-in-Ok-clause-goes
 returns-in-Ok-clause-goes g c =
-    moves g.V.Store.told g.V.Store.may_leave g.V.Store.faults c.args.setting.now.precheck c.args.client.now c.turn.new.client c.args.core.now.regions.items c.turn.new.core.regions.items c.args.core.now.system.state c.turn.new.core.system.state c.args.core.now.vault c.turn.new.core.vault
+    moves g.V.Store c.args.setting.now.precheck c.args.client.now c.turn.new.client c.args.core.now.regions.items c.turn.new.core.regions.items c.args.core.now.system.state c.turn.new.core.system.state c.args.core.now.vault c.turn.new.core.vault
     c.in-Ok.ensures.goes
 
 pub returns-in-Err-clause-goes : goal.returns-in-Err-clause-goes

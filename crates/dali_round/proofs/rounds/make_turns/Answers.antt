@@ -9,7 +9,7 @@ use Rattle.dali_round.proofs.rounds.make_turns.Goals as goal
 use Rattle.dali_round.proofs.rounds.make_turns.Goals.{then-went_on, else-went_on}
 
 pub loop-place-init : goal.loop-place-init
-loop-place-init g c = record { goes = λ s p bs f. f; places = c.requires.places; longer = as_long g.V.Store.told c.args.core.now.vault; moments = ends_here g.V.Store.told g.V.Store.may_leave g.V.Store.faults g.V.Store.moment g.V.Store.left_since c.args.setting.now.precheck c.args.clients.now c.args.core.now.regions.items c.args.core.now.system.state c.args.core.now.vault (λ d past. g.met.V.Store.only_now c.args.core.now.vault.store d past); idle = λ e m i k below at_m at. absurd (omega (arith, below)) }
+loop-place-init g c = record { goes = λ s p bs f. f; places = c.requires.places; longer = as_long g.V.Store.told c.args.core.now.vault; moments = ends_here g.V.Store c.args.setting.now.precheck c.args.clients.now c.args.core.now.regions.items c.args.core.now.system.state c.args.core.now.vault (λ d past. g.met.V.Store.only_now c.args.core.now.vault.store d past); idle = λ e m i k below at_m at. absurd (omega (arith, below)) }
 
 pub make_turn-requires : goal.make_turn-requires
 make_turn-requires g c =
@@ -18,10 +18,10 @@ make_turn-requires g c =
 pub loop-place-preserved : goal.loop-place-preserved
 loop-place-preserved g c =
     record {
-      goes = goes_on g.V.Store.told g.V.Store.may_leave g.V.Store.faults _ _ _ _ _ _ _ _ _ _ _ _ _ true c.loop-place.invariant.goes (goes_one g.V.Store.told g.V.Store.may_leave g.V.Store.faults _ _ _ _ _ _ _ _ _ _ _ (in_order c.args.order.now c.loop-place.place-index _ c.loop-place.clients c.args.clients.now c.requires.order c.loop-place-test.true c.loop-place.auto.clients) c.in_ok-moved.ensures.goes);
+      goes = goes_on g.V.Store _ _ _ _ _ _ _ _ _ _ _ _ _ true c.loop-place.invariant.goes (goes_one g.V.Store _ _ _ _ _ _ _ _ _ _ _ (in_order c.args.order.now c.loop-place.place-index _ c.loop-place.clients c.args.clients.now c.requires.order c.loop-place-test.true c.loop-place.auto.clients) c.in_ok-moved.ensures.goes);
       places = places_on g.V.Store.told _ _ _ _ _ _ _ _ (in_order c.args.order.now c.loop-place.place-index _ c.loop-place.clients c.args.clients.now c.requires.order c.loop-place-test.true c.loop-place.auto.clients) c.in_ok-moved.ensures.places c.loop-place.invariant.places;
       longer = longer_on g.V.Store.told c.args.core.now.vault c.loop-place.core.vault c.make_turn.new.core.vault c.loop-place.invariant.longer c.in_ok-moved.ensures.places.longer;
-      moments = ends_on g.V.Store.told g.V.Store.may_leave g.V.Store.faults g.V.Store.moment g.V.Store.left_since c.args.setting.now.precheck _ _ _ _ _ _ _ _ _ _ _ _ c.loop-place.invariant.longer c.loop-place.invariant.moments (move_ends g.V.Store.told g.V.Store.may_leave g.V.Store.faults g.V.Store.moment g.V.Store.left_since c.args.setting.now.precheck _ _ _ _ _ _ _ _ _ _ (in_order c.args.order.now c.loop-place.place-index _ c.loop-place.clients c.args.clients.now c.requires.order c.loop-place-test.true c.loop-place.auto.clients) (λ d past. g.met.V.Store.only_now c.loop-place.core.vault.store d past) c.in_ok-moved.ensures.goes c.in_ok-moved.ensures.any_moment);
+      moments = ends_on g.V.Store c.args.setting.now.precheck _ _ _ _ _ _ _ _ _ _ _ _ c.loop-place.invariant.longer c.loop-place.invariant.moments (move_ends g.V.Store c.args.setting.now.precheck _ _ _ _ _ _ _ _ _ _ (in_order c.args.order.now c.loop-place.place-index _ c.loop-place.clients c.args.clients.now c.requires.order c.loop-place-test.true c.loop-place.auto.clients) (λ d past. g.met.V.Store.only_now c.loop-place.core.vault.store d past) c.in_ok-moved.ensures.goes c.in_ok-moved.ensures.any_moment);
       idle = elim c.if-went_on.branch [
         | then-went_on w ↦ λ e. let no : true ≡ false = sym w.if-went_on.true ∙ (sym w.went_on-is ∙ e) in absurd (cc)
         | else-went_on w ↦ λ e.
@@ -42,13 +42,13 @@ returns-clause-turns g c = record {
 pub returns-in_err-moved-clause-turns : goal.returns-in_err-moved-clause-turns
 returns-in_err-moved-clause-turns g c = record {
   goes =
-      goes_as g.V.Store.told g.V.Store.may_leave g.V.Store.faults _ _ _ _ _ _ _ _ _ false (is_ok c.from_residual.result) (err_false c.from_residual.result c.from_residual.ensures.0)
-      (goes_on g.V.Store.told g.V.Store.may_leave g.V.Store.faults _ _ _ _ _ _ _ _ _ _ _ _ _ false c.loop-place.invariant.goes (halts_one g.V.Store.told g.V.Store.may_leave g.V.Store.faults _ _ _ _ _ _ _ _ _ _ _ (in_order c.args.order.now c.loop-place.place-index _ c.loop-place.clients c.args.clients.now c.requires.order c.loop-place-test.true c.loop-place.auto.clients) c.in_err-moved.ensures.goes));
+      goes_as g.V.Store _ _ _ _ _ _ _ _ _ false (is_ok c.from_residual.result) (err_false c.from_residual.result c.from_residual.ensures.0)
+      (goes_on g.V.Store _ _ _ _ _ _ _ _ _ _ _ _ _ false c.loop-place.invariant.goes (halts_one g.V.Store _ _ _ _ _ _ _ _ _ _ _ (in_order c.args.order.now c.loop-place.place-index _ c.loop-place.clients c.args.clients.now c.requires.order c.loop-place-test.true c.loop-place.auto.clients) c.in_err-moved.ensures.goes));
   places = places_on g.V.Store.told _ _ _ _ _ _ _ _ (in_order c.args.order.now c.loop-place.place-index _ c.loop-place.clients c.args.clients.now c.requires.order c.loop-place-test.true c.loop-place.auto.clients) c.in_err-moved.ensures.places c.loop-place.invariant.places;
   longer = longer_on g.V.Store.told c.args.core.now.vault c.loop-place.core.vault c.make_turn.new.core.vault c.loop-place.invariant.longer c.in_err-moved.ensures.places.longer;
   any_moment =
-      ends_as g.V.Store.told g.V.Store.may_leave g.V.Store.faults g.V.Store.moment g.V.Store.left_since c.args.setting.now.precheck _ _ _ _ _ _ _ _ false (is_ok c.from_residual.result) (err_false c.from_residual.result c.from_residual.ensures.0)
-      (ends_cut g.V.Store.told g.V.Store.may_leave g.V.Store.faults g.V.Store.moment g.V.Store.left_since c.args.setting.now.precheck _ _ _ _ _ _ _ _ _ _ _ _ c.loop-place.invariant.longer c.loop-place.invariant.moments (move_cut g.V.Store.told g.V.Store.may_leave g.V.Store.faults g.V.Store.moment g.V.Store.left_since c.args.setting.now.precheck _ _ _ _ _ _ _ _ _ _ (in_order c.args.order.now c.loop-place.place-index _ c.loop-place.clients c.args.clients.now c.requires.order c.loop-place-test.true c.loop-place.auto.clients) c.in_err-moved.ensures.goes c.in_err-moved.ensures.any_moment));
+      ends_as g.V.Store c.args.setting.now.precheck _ _ _ _ _ _ _ _ false (is_ok c.from_residual.result) (err_false c.from_residual.result c.from_residual.ensures.0)
+      (ends_cut g.V.Store c.args.setting.now.precheck _ _ _ _ _ _ _ _ _ _ _ _ c.loop-place.invariant.longer c.loop-place.invariant.moments (move_cut g.V.Store c.args.setting.now.precheck _ _ _ _ _ _ _ _ _ _ (in_order c.args.order.now c.loop-place.place-index _ c.loop-place.clients c.args.clients.now c.requires.order c.loop-place-test.true c.loop-place.auto.clients) c.in_err-moved.ensures.goes c.in_err-moved.ensures.any_moment));
 }
 
 pub returns-clause-idle : goal.returns-clause-idle

@@ -1,5 +1,5 @@
 use Rattle.std.proofs.Common.{◌≡◌, true, false}
-use Rattle.dali_whole.specs.Cores.{IsNoShorter}
+use Rattle.dali_core.specs.Cores.{IsNoShorter}
 use Rattle.dali_round.specs.Played.{HavePlaces, PlayGoes}
 use Rattle.dali_round.specs.Moments.{PlayEnds}
 use Rattle.dali_round.proofs.Passing.{AreIdleIn}
@@ -7,9 +7,9 @@ use Rattle.dali_round.proofs.rounds.make_turns.Given as goal
 
 abbrev pub invariant-loop-place : goal.invariant-loop-place
 invariant-loop-place g l = record {
-  goes : PlayGoes g.V.Store.told g.V.Store.may_leave g.V.Store.faults l.setting.precheck l.fn.clients l.fn.core.regions.items l.fn.core.system.state l.fn.core.vault true l.clients l.core.regions.items l.core.system.state l.core.vault;
+  goes : PlayGoes g.V.Store l.setting.precheck l.fn.clients l.fn.core.regions.items l.fn.core.system.state l.fn.core.vault true l.clients l.core.regions.items l.core.system.state l.core.vault;
   places : HavePlaces g.V.Store.told l.clients l.core.regions.items l.core.vault;
   longer : IsNoShorter g.V.Store.told l.fn.core.vault l.core.vault;
-  moments : PlayEnds g.V.Store.told g.V.Store.may_leave g.V.Store.faults g.V.Store.moment g.V.Store.left_since true l.setting.precheck l.fn.clients l.fn.core.regions.items l.fn.core.system.state l.fn.core.vault l.clients l.core.regions.items l.core.system.state l.core.vault;
+  moments : PlayEnds g.V.Store true l.setting.precheck l.fn.clients l.fn.core.regions.items l.fn.core.system.state l.fn.core.vault l.clients l.core.regions.items l.core.system.state l.core.vault;
   idle : l.went_on ≡ false → AreIdleIn l.core.system.state l.clients l.order l.place-index;
 }

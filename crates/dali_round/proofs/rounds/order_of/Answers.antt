@@ -1,5 +1,5 @@
 use Rattle.std.proofs.Common.{◌+◌, ap, subst, sym, arith}
-use Rattle.dali_clients.specs.declared.command.Block.{Block}
+use Rattle.dali_transcripts.specs.declared.clients.command.Block.{Block}
 use Rattle.dali_turns.proofs.Commands.{lent_there}
 use Rattle.dali_round.proofs.Orders.{AreListed, none_listed, one_listed, other_listed, number_listed, all_listed}
 use Rattle.dali_round.proofs.rounds.order_of.Goals as goal

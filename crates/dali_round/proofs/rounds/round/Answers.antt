@@ -1,7 +1,7 @@
 use Rattle.std.proofs.Common.{◌≡◌, ◌∙◌, ℕ, List, length, map, false, ap, sym, subst, inl, arith}
 use Rattle.std.proofs.lemmas.Grind.{common_steps}
-use Rattle.dali_clients.specs.Said.{Transcribed}
-use Rattle.dali_clients.specs.Told.{told_of}
+use Rattle.dali_transcripts.specs.Clients.Said.{Transcribed}
+use Rattle.dali_transcripts.specs.Clients.Told.{told_of}
 use Rattle.dali_round.specs.Leads.{is_done, lines_in, RoundLeads}
 use Rattle.dali_round.specs.Idle.{IsOrder}
 use Rattle.dali_round.specs.Played.{AreNew}
@@ -15,8 +15,8 @@ use Rattle.dali_round.proofs.rounds.round.Goals as goal
 pub returns-in_default-clause-leads : goal.returns-in_default-clause-leads
 returns-in_default-clause-leads g c = λ s B p b.
     let bs = map told_of c.args.blocks.now in
-    subst (λ l. RoundLeads g.V.Store.told g.V.Store.may_leave g.V.Store.faults c.args.precheck false s p bs (map lines_in l) (map (λ (t : Transcribed). t.receipts) l) c.args.core.regions.items c.args.core.system.state c.args.core.vault) (sym c.new.ensures.items)
-    (none_leads g.V.Store.told g.V.Store.may_leave g.V.Store.faults c.args.precheck s B p c.args.core.regions.items c.args.core.system.state c.args.core.vault bs b)
+    subst (λ l. RoundLeads g.V.Store c.args.precheck false s p bs (map lines_in l) (map (λ (t : Transcribed). t.receipts) l) c.args.core.regions.items c.args.core.system.state c.args.core.vault) (sym c.new.ensures.items)
+    (none_leads g.V.Store c.args.precheck s B p c.args.core.regions.items c.args.core.system.state c.args.core.vault bs b)
 
 pub play-end-requires : goal.play-end-requires
 play-end-requires g c = record {
@@ -28,7 +28,7 @@ pub returns-clause-leads : goal.returns-clause-leads
 returns-clause-leads g c = λ s B p b.
     let size : length c.play-end.new.clients ≡ c.in-Ok.clients.len = grind (arith, common_steps, c.play-end.auto.clients, c.deref_mut.ensures.value) in
     let many : length c.play-end.new.clients ≡ length c.args.blocks.now = c.play-end.auto.clients ∙ (ap length c.deref_mut.ensures.value ∙ c.in-Ok.ensures.clients.count) in
-    round_leads g.V.Store.told g.V.Store.may_leave g.V.Store.faults c.args.precheck c.args.core.regions.items c.play-end.new.core.regions.items c.args.core.system.state c.play-end.new.core.system.state c.args.core.vault c.play-end.new.core.vault (is_done c.play-end.result) c.args.blocks.now c.deref_mut.result.now c.play-end.new.clients c.transcripts_of.result.items c.requires.placed
+    round_leads g.V.Store c.args.precheck c.args.core.regions.items c.play-end.new.core.regions.items c.args.core.system.state c.play-end.new.core.system.state c.args.core.vault c.play-end.new.core.vault (is_done c.play-end.result) c.args.blocks.now c.deref_mut.result.now c.play-end.new.clients c.transcripts_of.result.items c.requires.placed
     (subst (AreNew c.args.blocks.now) (sym c.deref_mut.ensures.value) c.in-Ok.ensures.clients) c.play-end.ensures.goes many
     (c.transcripts_of.ensures ∙ ap (named c.args.blocks.now) (put_back c.in-Ok.clients.len c.play-end.new.clients c.in-Ok.clients.items size)) s B p b
 
@@ -51,8 +51,8 @@ pub returns-in_default-clause-longer : goal.returns-in_default-clause-longer
 returns-in_default-clause-longer g c = as_long g.V.Store.told c.args.core.vault
 
 pub returns-in_default-clause-any_moment : goal.returns-in_default-clause-any_moment
-returns-in_default-clause-any_moment g c = nothing_leaves g.V.Store.told g.V.Store.may_leave g.V.Store.faults g.V.Store.moment g.V.Store.left_since c.args.core.regions.items c.args.core.system.state c.args.core.vault (λ d past. g.met.V.Store.only_now c.args.core.vault.store d past)
+returns-in_default-clause-any_moment g c = nothing_leaves g.V.Store c.args.core.regions.items c.args.core.system.state c.args.core.vault (λ d past. g.met.V.Store.only_now c.args.core.vault.store d past)
 
 pub returns-clause-any_moment : goal.returns-clause-any_moment
 returns-clause-any_moment g c =
-    round_leaves g.V.Store.told g.V.Store.may_leave g.V.Store.faults g.V.Store.moment g.V.Store.left_since c.args.precheck c.args.blocks.now c.deref_mut.result.now c.args.core.regions.items c.play-end.new.core.regions.items c.args.core.system.state c.play-end.new.core.system.state c.args.core.vault c.play-end.new.core.vault c.requires.placed (subst (AreNew c.args.blocks.now) (sym c.deref_mut.ensures.value) c.in-Ok.ensures.clients) c.play-end.ensures.any_moment
+    round_leaves g.V.Store c.args.precheck c.args.blocks.now c.deref_mut.result.now c.args.core.regions.items c.play-end.new.core.regions.items c.args.core.system.state c.play-end.new.core.system.state c.args.core.vault c.play-end.new.core.vault c.requires.placed (subst (AreNew c.args.blocks.now) (sym c.deref_mut.ensures.value) c.in-Ok.ensures.clients) c.play-end.ensures.any_moment

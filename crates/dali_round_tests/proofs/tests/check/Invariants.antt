@@ -1,5 +1,5 @@
 use Rattle.std.specs.Prelude.{IfSome}
-use Rattle.dali_whole.specs.Cores.{HoldsPlaces}
+use Rattle.dali_core.specs.Cores.{HoldsPlaces}
 use Rattle.dali_round_tests.proofs.tests.check.Given as goal
 
 abbrev pub invariant-loop-text : goal.invariant-loop-text

@@ -1,5 +1,5 @@
 use Rattle.std.proofs.Common.{◌≡◌, map, take}
-use Rattle.dali_clients.specs.Told.{told_of}
+use Rattle.dali_transcripts.specs.Clients.Told.{told_of}
 use Rattle.dali_run.specs.Told.{told_by}
 use Rattle.dali_run.proofs.blocks.blocks_of.Given as goal
 

@@ -1,5 +1,5 @@
 use Rattle.std.proofs.Common.{◌≡◌, map, take}
-use Rattle.dali_clients.specs.Told.{act_of}
+use Rattle.dali_transcripts.specs.Clients.Told.{act_of}
 use Rattle.dali_run.specs.Told.{act_by}
 use Rattle.dali_run.proofs.blocks.commands_of.Given as goal
 

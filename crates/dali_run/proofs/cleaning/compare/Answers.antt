@@ -2,7 +2,7 @@ use Rattle.std.proofs.Common.{refl}
 use Rattle.std.specs.Prelude.{IsErrOf}
 use Rattle.dali_lists.proofs.Options.{if_some_then}
 use Rattle.dali_verify.specs.declared.error.VerifyError.TheVariants.{Fault}
-use Rattle.dali_memstore.specs.Fuse.{inner}
+use Rattle.dali_fuse.specs.Fuse.{inner}
 use Rattle.dali_run.proofs.Comparisons.{bad_log}
 use Rattle.dali_run.proofs.cleaning.compare.Goals as goal
 

@@ -2,7 +2,7 @@ use Rattle.std.proofs.Common.{◌∙◌, ℕ, List, rules, ap}
 use Rattle.std.specs.Prelude.{filter}
 use Rattle.std.specs.FinMap as finite
 use Rattle.std.proofs.lemmas.Fn.{filter_same}
-use Rattle.dali_system.specs.State.{state_of}
+use Rattle.dali_runs.specs.State.{state_of}
 use Rattle.dali_transcripts.specs.World.{is_dead_in}
 use Rattle.dali_run.proofs.cleaning.dead_in.Goals as goal
 

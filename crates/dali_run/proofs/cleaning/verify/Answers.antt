@@ -1,10 +1,10 @@
 use Rattle.std.proofs.Common.{Option, sym, subst}
 use Rattle.std.specs.Prelude.{IfSome}
 use Rattle.dali_store.specs.Store.{Files}
-use Rattle.dali_whole.specs.Cores.{HoldsPlaces}
+use Rattle.dali_core.specs.Cores.{HoldsPlaces}
 use Rattle.dali_run.specs.Program.{HoldsImages, told_in}
 use Rattle.dali_run.proofs.cleaning.verify.Goals as goal
-use Rattle.dali_whole.proofs.Lengths.{flags_hold}
+use Rattle.dali_core.proofs.Lengths.{flags_hold}
 
 pub returns-in-Up-clause-images : goal.returns-in-Up-clause-images
 returns-in-Up-clause-images g c =

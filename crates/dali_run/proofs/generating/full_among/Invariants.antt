@@ -1,5 +1,5 @@
 use Rattle.std.proofs.Common.{◌≡◌, drop, map}
-use Rattle.dali_clients.specs.Told.{said_of}
+use Rattle.dali_transcripts.specs.Clients.Told.{said_of}
 use Rattle.dali_run.specs.Generating.{full_among}
 use Rattle.dali_run.proofs.generating.full_among.Given as goal
 

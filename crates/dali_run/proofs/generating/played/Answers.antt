@@ -1,8 +1,8 @@
 use Rattle.std.proofs.Common.{◌∙◌, List, Some, None, map, refl, sym, ap, subst, inl, inr}
 use Rattle.std.specs.Prelude.{nat_lt}
-use Rattle.dali_clients.specs.declared.command.Block.{Block}
-use Rattle.dali_clients.specs.Told.{told_of}
-use Rattle.dali_memstore.specs.Fuse.{failed_of}
+use Rattle.dali_transcripts.specs.declared.clients.command.Block.{Block}
+use Rattle.dali_transcripts.specs.Clients.Told.{told_of}
+use Rattle.dali_fuse.specs.Fuse.{failed_of}
 use Rattle.dali_run.specs.declared.halt.Halt.{Halt}
 use Rattle.dali_run.specs.Generating.{RoundStops}
 use Rattle.dali_run.specs.Told.{told_by}

@@ -1,5 +1,5 @@
 use Rattle.std.proofs.lemmas.Result.{IfOk-weaker}
-use Rattle.dali_clients.specs.Told.{act_of}
+use Rattle.dali_transcripts.specs.Clients.Told.{act_of}
 use Rattle.dali_run.specs.declared.program.Program.TheVariants.{Up}
 use Rattle.dali_run.specs.Steps.{ActsAlone, StepsAlone}
 use Rattle.dali_run.proofs.RoundCalls.{steps_alone}

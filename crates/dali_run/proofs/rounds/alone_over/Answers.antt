@@ -2,9 +2,9 @@ use Rattle.std.proofs.Common.{◌≡◌, ◌<◌, ◌∙◌, true, false, List, 
 use Rattle.std.specs.Prelude.{flat_map}
 use Rattle.std.specs.List.{list_any}
 use Rattle.std.proofs.lemmas.Result.{IfOk-weaker}
-use Rattle.dali_clients.specs.Said.{Transcribed}
-use Rattle.dali_clients.specs.Told.{act_of}
-use Rattle.dali_memstore.specs.Fuse.{failed_of}
+use Rattle.dali_transcripts.specs.Clients.Said.{Transcribed}
+use Rattle.dali_transcripts.specs.Clients.Told.{act_of}
+use Rattle.dali_fuse.specs.Fuse.{failed_of}
 use Rattle.dali_transcripts.specs.Transcripts.{Told}
 use Rattle.dali_transcripts.specs.Rounds.{AreBlocks}
 use Rattle.dali_run.specs.Fails.{AloneEnds, Played}

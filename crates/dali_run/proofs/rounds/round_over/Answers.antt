@@ -1,9 +1,9 @@
 use Rattle.std.proofs.Common.{◌≡◌, ◌∙◌, List, true, map, sym, ap, subst}
 use Rattle.std.proofs.lemmas.Result.{IfOk-weaker}
 use Rattle.dali_lists.proofs.Options.{on_err_any}
-use Rattle.dali_clients.specs.declared.command.Block.{Block}
-use Rattle.dali_clients.specs.Said.{Transcribed}
-use Rattle.dali_clients.specs.Told.{told_of}
+use Rattle.dali_transcripts.specs.declared.clients.command.Block.{Block}
+use Rattle.dali_transcripts.specs.Clients.Said.{Transcribed}
+use Rattle.dali_transcripts.specs.Clients.Told.{told_of}
 use Rattle.dali_transcripts.specs.Transcripts.{Told}
 use Rattle.dali_transcripts.specs.Rounds.{AreBlocks}
 use Rattle.dali_run.specs.Steps.{Plays, RunsRound, TellAll}

@@ -2,7 +2,7 @@ use Rattle.std.proofs.Common.{◌≡◌, ◌∙◌, rules, tests}
 use Rattle.std.specs.List.{list_any}
 use Rattle.std.proofs.lemmas.Iterator.{YieldsList-from_slice}
 use Rattle.std.proofs.lemmas.Iterator.Search.{any_from_yields_List}
-use Rattle.dali_clients.specs.Told.{said_of}
+use Rattle.dali_transcripts.specs.Clients.Told.{said_of}
 use Rattle.dali_run.specs.Texts.{is_failure}
 use Rattle.dali_run.proofs.RoundCalls.{any_said}
 use Rattle.dali_run.proofs.rounds.says_failure.Goals as goal

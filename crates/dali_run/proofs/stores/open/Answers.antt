@@ -1,6 +1,6 @@
 use Rattle.std.proofs.Common.{◌≡◌, ◌<◌, ◌∷◌, []}
 use Rattle.std.proofs.lemmas.Result.{IfOk-weaker}
-use Rattle.dali_memstore.specs.Fuse.{failed_of}
+use Rattle.dali_fuse.specs.Fuse.{failed_of}
 use Rattle.dali_report.specs.Lines.{texts}
 use Rattle.dali_report.specs.declared.printed.Line.TheVariants as lines
 use Rattle.dali_restart.specs.declared.error.RestartError.TheVariants.{Fault}

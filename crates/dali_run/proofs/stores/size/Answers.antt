@@ -1,6 +1,6 @@
 use Rattle.std.proofs.Common.{subst}
 use Rattle.dali_geometry.specs.Sizes.{Sizes}
-use Rattle.dali_memstore.specs.declared.fuse.Fuse.{Fuse}
+use Rattle.dali_fuse.specs.declared.fuse.Fuse.{Fuse}
 use Rattle.dali_run.specs.Program.{store_of}
 use Rattle.dali_run.proofs.StoreCalls.{Formatted, format_fails_over, format_steps}
 use Rattle.dali_run.proofs.stores.size.Goals as goal

@@ -1,6 +1,6 @@
 use Rattle.std.proofs.Common.{◌≡◌, ◌++◌, take}
 use Rattle.std.specs.Prelude.{flat_map}
-use Rattle.dali_clients.specs.Told.{said_of}
+use Rattle.dali_transcripts.specs.Clients.Told.{said_of}
 use Rattle.dali_report.specs.Lines.{alone_text}
 use Rattle.dali_run.proofs.texts.put_alone.Given as goal
 

@@ -1,6 +1,6 @@
 use Rattle.std.proofs.Common.{◌≡◌, ◌++◌, ℕ, take, subst}
 use Rattle.std.specs.Prelude.{flat_map}
-use Rattle.dali_clients.specs.Told.{said_of}
+use Rattle.dali_transcripts.specs.Clients.Told.{said_of}
 use Rattle.dali_report.specs.Lines.{client_text}
 use Rattle.dali_run.proofs.RoundTexts.{client_told}
 use Rattle.dali_run.proofs.texts.put_transcript.Goals as goal

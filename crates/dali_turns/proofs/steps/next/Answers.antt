@@ -7,7 +7,7 @@ use Rattle.dali_turns.proofs.Putting.{never_went, outside_put}
 use Rattle.dali_turns.proofs.Over.{some_next}
 use Rattle.dali_turns.proofs.Placed.{places_still, at_state}
 use Rattle.dali_turns.proofs.Moments.{leaves_still}
-use Rattle.dali_clients.specs.declared.command.Command.TheVariants.{Begin, Poke, Audit, Checkpoint}
+use Rattle.dali_transcripts.specs.declared.clients.command.Command.TheVariants.{Begin, Poke, Audit, Checkpoint}
 use Rattle.dali_turns.proofs.Meeting.{on_no_ok}
 use Rattle.dali_turns.proofs.AtOnce.{refuses_next}
 use Rattle.dali_turns.proofs.steps.next.Goals as goal
@@ -15,13 +15,13 @@ use Rattle.dali_turns.proofs.steps.next.Goals as goal
 pub returns-in_default-clause-goes : goal.returns-in_default-clause-goes
 returns-in_default-clause-goes g c =
     let k = c.args.client.now in
-    in_no_run g.V.Store.told g.V.Store.may_leave g.V.Store.faults c.args.setting.now.precheck k c.args.core.now.regions.items c.args.core.now.system.state c.args.core.now.vault _ k c.args.core.now.regions.items c.args.core.now.system.state c.args.core.now.vault Outside
-    (λ may. not_outside c.in-Some.command (behind_next k) (outside_placed g.V.Store.told g.V.Store.may_leave g.V.Store.faults c.args.core.now.regions.items c.args.core.now.system.state c.args.core.now.vault k c.in-Some.command may (sym c.command.ensures ∙ c.in-Some.is))
+    in_no_run g.V.Store c.args.setting.now.precheck k c.args.core.now.regions.items c.args.core.now.system.state c.args.core.now.vault _ k c.args.core.now.regions.items c.args.core.now.system.state c.args.core.now.vault Outside
+    (λ may. not_outside c.in-Some.command (behind_next k) (outside_placed g.V.Store c.args.core.now.regions.items c.args.core.now.system.state c.args.core.now.vault k c.in-Some.command may (sym c.command.ensures ∙ c.in-Some.is))
     (λ e. c.in_default.not-Begin e) (λ r word mask e. c.in_default.not-Poke r word mask e) (λ e. c.in_default.not-Audit e) (λ e. c.in_default.not-Checkpoint e))
 
 pub returns-in-None-clause-goes : goal.returns-in-None-clause-goes
 returns-in-None-clause-goes g c =
-    none_goes g.V.Store.told g.V.Store.may_leave g.V.Store.faults c.args.setting.now.precheck c.args.core.now.regions.items c.args.core.now.system.state c.args.core.now.vault c.args.client.now c.args.client.now (record { rest = refl; stands = c.requires.stands; points = refl; transcript = refl })
+    none_goes g.V.Store c.args.setting.now.precheck c.args.core.now.regions.items c.args.core.now.system.state c.args.core.now.vault c.args.client.now c.args.client.now (record { rest = refl; stands = c.requires.stands; points = refl; transcript = refl })
 
 pub returns-in_default-clause-places : goal.returns-in_default-clause-places
 returns-in_default-clause-places g c = places_still g.V.Store.told Outside c.args.client.now.state c.args.core.now.regions.items c.args.core.now.regions.items c.args.core.now.vault c.args.core.now.vault refl refl (at_state g.V.Store.told _ _ c.args.client.now.state Outside c.args.core.now.vault c.requires.stands tt)
@@ -63,19 +63,19 @@ pub returns-in-Checkpoint-clause-over : goal.returns-in-Checkpoint-clause-over
 returns-in-Checkpoint-clause-over g c = λ none. some_next c.args.client.now c.in-Some.command (sym c.command.ensures ∙ c.in-Some.is) none
 
 pub returns-in_default-clause-any_moment : goal.returns-in_default-clause-any_moment
-returns-in_default-clause-any_moment g c = leaves_still g.V.Store.told g.V.Store.may_leave g.V.Store.faults g.V.Store.moment g.V.Store.left_since Outside c.args.client.now c.args.core.now.regions.items c.args.core.now.system.state _ c.args.core.now.vault _ (λ d past. g.met.V.Store.only_now c.args.core.now.vault.store d past) refl
+returns-in_default-clause-any_moment g c = leaves_still g.V.Store Outside c.args.client.now c.args.core.now.regions.items c.args.core.now.system.state _ c.args.core.now.vault _ (λ d past. g.met.V.Store.only_now c.args.core.now.vault.store d past) refl
 
 pub returns-in-None-clause-any_moment : goal.returns-in-None-clause-any_moment
-returns-in-None-clause-any_moment g c = leaves_still g.V.Store.told g.V.Store.may_leave g.V.Store.faults g.V.Store.moment g.V.Store.left_since Outside c.args.client.now c.args.core.now.regions.items c.args.core.now.system.state _ c.args.core.now.vault _ (λ d past. g.met.V.Store.only_now c.args.core.now.vault.store d past) refl
+returns-in-None-clause-any_moment g c = leaves_still g.V.Store Outside c.args.client.now c.args.core.now.regions.items c.args.core.now.system.state _ c.args.core.now.vault _ (λ d past. g.met.V.Store.only_now c.args.core.now.vault.store d past) refl
 
 pub returns-in-Begin-clause-any_moment : goal.returns-in-Begin-clause-any_moment
-returns-in-Begin-clause-any_moment g c = leaves_still g.V.Store.told g.V.Store.may_leave g.V.Store.faults g.V.Store.moment g.V.Store.left_since Outside c.args.client.now c.args.core.now.regions.items c.args.core.now.system.state _ c.args.core.now.vault _ (λ d past. g.met.V.Store.only_now c.args.core.now.vault.store d past) c.begin.ensures.vault
+returns-in-Begin-clause-any_moment g c = leaves_still g.V.Store Outside c.args.client.now c.args.core.now.regions.items c.args.core.now.system.state _ c.args.core.now.vault _ (λ d past. g.met.V.Store.only_now c.args.core.now.vault.store d past) c.begin.ensures.vault
 
 pub returns-in-Poke-clause-any_moment : goal.returns-in-Poke-clause-any_moment
-returns-in-Poke-clause-any_moment g c = leaves_still g.V.Store.told g.V.Store.may_leave g.V.Store.faults g.V.Store.moment g.V.Store.left_since Outside c.args.client.now c.args.core.now.regions.items c.args.core.now.system.state _ c.args.core.now.vault _ (λ d past. g.met.V.Store.only_now c.args.core.now.vault.store d past) c.poke.ensures.vault
+returns-in-Poke-clause-any_moment g c = leaves_still g.V.Store Outside c.args.client.now c.args.core.now.regions.items c.args.core.now.system.state _ c.args.core.now.vault _ (λ d past. g.met.V.Store.only_now c.args.core.now.vault.store d past) c.poke.ensures.vault
 
 pub returns-in-Audit-clause-any_moment : goal.returns-in-Audit-clause-any_moment
-returns-in-Audit-clause-any_moment g c = leaves_still g.V.Store.told g.V.Store.may_leave g.V.Store.faults g.V.Store.moment g.V.Store.left_since Outside c.args.client.now c.args.core.now.regions.items c.args.core.now.system.state _ c.args.core.now.vault _ (λ d past. g.met.V.Store.only_now c.args.core.now.vault.store d past) c.start.ensures.vault
+returns-in-Audit-clause-any_moment g c = leaves_still g.V.Store Outside c.args.client.now c.args.core.now.regions.items c.args.core.now.system.state _ c.args.core.now.vault _ (λ d past. g.met.V.Store.only_now c.args.core.now.vault.store d past) c.start.ensures.vault
 
 pub returns-in_default-clause-refuses : goal.returns-in_default-clause-refuses
 returns-in_default-clause-refuses g c = λ command next why is. on_no_ok _ c.no_run.result c.no_run.ensures

@@ -13,14 +13,14 @@ use Rattle.dali_turns.proofs.steps.within.Goals as goal
 pub returns-in_default-clause-goes : goal.returns-in_default-clause-goes
 returns-in_default-clause-goes g c =
     let k = c.args.client.now in
-    in_no_run g.V.Store.told g.V.Store.may_leave g.V.Store.faults c.args.setting.now.precheck k c.args.core.now.regions.items c.args.core.now.system.state c.args.core.now.vault _ k c.args.core.now.regions.items c.args.core.now.system.state c.args.core.now.vault (Within c.args.transaction)
-    (λ may. not_within c.in-Some.command (behind_next k) (within_placed g.V.Store.told g.V.Store.may_leave g.V.Store.faults c.args.core.now.regions.items c.args.core.now.system.state c.args.core.now.vault k c.args.transaction c.in-Some.command may (sym c.command.ensures ∙ c.in-Some.is))
+    in_no_run g.V.Store c.args.setting.now.precheck k c.args.core.now.regions.items c.args.core.now.system.state c.args.core.now.vault _ k c.args.core.now.regions.items c.args.core.now.system.state c.args.core.now.vault (Within c.args.transaction)
+    (λ may. not_within c.in-Some.command (behind_next k) (within_placed g.V.Store c.args.core.now.regions.items c.args.core.now.system.state c.args.core.now.vault k c.args.transaction c.in-Some.command may (sym c.command.ensures ∙ c.in-Some.is))
     (λ call e. c.in_default.not-Call call e) (λ n e. c.in_default.not-Die n e) (λ e. c.in_default.not-Commit e) (λ e. c.in_default.not-Abort e))
 
 pub returns-in-Die-clause-goes : goal.returns-in-Die-clause-goes
 returns-in-Die-clause-goes g c =
     let x = c.args.transaction in
-    armed_goes g.V.Store.told g.V.Store.may_leave g.V.Store.faults c.args.setting.now.precheck c.args.core.now.regions.items c.args.core.now.system.state c.args.core.now.vault c.args.client.now _ x (record x { deadly = Some c.in-Die.operation }) c.in-Die.operation (sym c.command.ensures ∙ (c.in-Some.is ∙ ap Some c.in-Die.is)) refl
+    armed_goes g.V.Store c.args.setting.now.precheck c.args.core.now.regions.items c.args.core.now.system.state c.args.core.now.vault c.args.client.now _ x (record x { deadly = Some c.in-Die.operation }) c.in-Die.operation (sym c.command.ensures ∙ (c.in-Some.is ∙ ap Some c.in-Die.is)) refl
     (record { rest = c.pass_command.ensures.rest; stands = refl; points = c.pass_command.ensures.points; transcript = c.pass_command.ensures.transcript })
 
 pub returns-in_default-clause-places : goal.returns-in_default-clause-places
@@ -42,19 +42,19 @@ pub returns-in-Abort-clause-idle : goal.returns-in-Abort-clause-idle
 returns-in-Abort-clause-idle g c = λ e. never_went c.abort.result c.abort.ensures.on e
 
 pub returns-in_default-clause-any_moment : goal.returns-in_default-clause-any_moment
-returns-in_default-clause-any_moment g c = leaves_still g.V.Store.told g.V.Store.may_leave g.V.Store.faults g.V.Store.moment g.V.Store.left_since (Within c.args.transaction) c.args.client.now c.args.core.now.regions.items c.args.core.now.system.state _ c.args.core.now.vault _ (λ d past. g.met.V.Store.only_now c.args.core.now.vault.store d past) refl
+returns-in_default-clause-any_moment g c = leaves_still g.V.Store (Within c.args.transaction) c.args.client.now c.args.core.now.regions.items c.args.core.now.system.state _ c.args.core.now.vault _ (λ d past. g.met.V.Store.only_now c.args.core.now.vault.store d past) refl
 
 pub returns-in-None-clause-any_moment : goal.returns-in-None-clause-any_moment
-returns-in-None-clause-any_moment g c = leaves_still g.V.Store.told g.V.Store.may_leave g.V.Store.faults g.V.Store.moment g.V.Store.left_since (Within c.args.transaction) c.args.client.now c.args.core.now.regions.items c.args.core.now.system.state _ c.args.core.now.vault _ (λ d past. g.met.V.Store.only_now c.args.core.now.vault.store d past) c.end.ensures.vault
+returns-in-None-clause-any_moment g c = leaves_still g.V.Store (Within c.args.transaction) c.args.client.now c.args.core.now.regions.items c.args.core.now.system.state _ c.args.core.now.vault _ (λ d past. g.met.V.Store.only_now c.args.core.now.vault.store d past) c.end.ensures.vault
 
 pub returns-in-Call-clause-any_moment : goal.returns-in-Call-clause-any_moment
-returns-in-Call-clause-any_moment g c = leaves_still g.V.Store.told g.V.Store.may_leave g.V.Store.faults g.V.Store.moment g.V.Store.left_since (Within c.args.transaction) c.args.client.now c.args.core.now.regions.items c.args.core.now.system.state _ c.args.core.now.vault _ (λ d past. g.met.V.Store.only_now c.args.core.now.vault.store d past) c.ask.ensures.vault
+returns-in-Call-clause-any_moment g c = leaves_still g.V.Store (Within c.args.transaction) c.args.client.now c.args.core.now.regions.items c.args.core.now.system.state _ c.args.core.now.vault _ (λ d past. g.met.V.Store.only_now c.args.core.now.vault.store d past) c.ask.ensures.vault
 
 pub returns-in-Die-clause-any_moment : goal.returns-in-Die-clause-any_moment
-returns-in-Die-clause-any_moment g c = leaves_still g.V.Store.told g.V.Store.may_leave g.V.Store.faults g.V.Store.moment g.V.Store.left_since (Within c.args.transaction) c.args.client.now c.args.core.now.regions.items c.args.core.now.system.state _ c.args.core.now.vault _ (λ d past. g.met.V.Store.only_now c.args.core.now.vault.store d past) refl
+returns-in-Die-clause-any_moment g c = leaves_still g.V.Store (Within c.args.transaction) c.args.client.now c.args.core.now.regions.items c.args.core.now.system.state _ c.args.core.now.vault _ (λ d past. g.met.V.Store.only_now c.args.core.now.vault.store d past) refl
 
 pub returns-in-Abort-clause-any_moment : goal.returns-in-Abort-clause-any_moment
-returns-in-Abort-clause-any_moment g c = leaves_still g.V.Store.told g.V.Store.may_leave g.V.Store.faults g.V.Store.moment g.V.Store.left_since (Within c.args.transaction) c.args.client.now c.args.core.now.regions.items c.args.core.now.system.state _ c.args.core.now.vault _ (λ d past. g.met.V.Store.only_now c.args.core.now.vault.store d past) c.abort.ensures.vault
+returns-in-Abort-clause-any_moment g c = leaves_still g.V.Store (Within c.args.transaction) c.args.client.now c.args.core.now.regions.items c.args.core.now.system.state _ c.args.core.now.vault _ (λ d past. g.met.V.Store.only_now c.args.core.now.vault.store d past) c.abort.ensures.vault
 
 pub returns-in-None-clause-refuses : goal.returns-in-None-clause-refuses
 returns-in-None-clause-refuses g c = subst (λ o. RefusesIn c.args.core.now.system.state c.args.transaction o c.args.client.now c.end.result c.end.new.client) (sym c.in-None.is ∙ c.command.ensures) c.end.ensures.refuses
@@ -75,4 +75,4 @@ pub returns-in_default-clause-refuses : goal.returns-in_default-clause-refuses
 returns-in_default-clause-refuses g c = none_in c.args.core.now.system.state c.args.transaction _ c.args.client.now c.args.client.now c.no_run.result c.no_run.ensures
 
 pub returns-in-Commit-clause-any_moment : goal.returns-in-Commit-clause-any_moment
-returns-in-Commit-clause-any_moment g c = leaves_still g.V.Store.told g.V.Store.may_leave g.V.Store.faults g.V.Store.moment g.V.Store.left_since (Within c.args.transaction) c.args.client.now c.args.core.now.regions.items c.args.core.now.system.state _ c.args.core.now.vault _ (λ d past. g.met.V.Store.only_now c.args.core.now.vault.store d past) c.commit.ensures.vault
+returns-in-Commit-clause-any_moment g c = leaves_still g.V.Store (Within c.args.transaction) c.args.client.now c.args.core.now.regions.items c.args.core.now.system.state _ c.args.core.now.vault _ (λ d past. g.met.V.Store.only_now c.args.core.now.vault.store d past) c.commit.ensures.vault

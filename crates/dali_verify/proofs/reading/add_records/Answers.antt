@@ -1,5 +1,5 @@
 use Rattle.std.proofs.Common.{arith}
-use Rattle.dali_batch.proofs.Bodies.{bad_at}
+use Rattle.dali_log.proofs.Bodies.{bad_at}
 use Rattle.dali_verify.proofs.Logs.{bad_here}
 use Rattle.dali_verify.proofs.reading.add_records.Goals as goal
 

@@ -1,6 +1,6 @@
 use Rattle.std.proofs.Common.{◌≡◌, length}
 use Rattle.dali_bytes.specs.Cursor.{left}
-use Rattle.dali_batch.proofs.Bodies.{ReadTo}
+use Rattle.dali_log.proofs.Bodies.{ReadTo}
 use Rattle.dali_verify.proofs.reading.add_records.Given as goal
 
 abbrev pub invariant-records : goal.invariant-records

@@ -1,7 +1,7 @@
 use Rattle.std.proofs.Common.{rules, ◌≡◌, [], ◌∷◌}
 use Rattle.std.proofs.lemmas.Result.{err_from_is_err_and}
 use Rattle.dali_record.specs.declared.records.Record.TheVariants.{Format}
-use Rattle.dali_batch.proofs.Finds.{if_some_two, if_some_same}
+use Rattle.dali_log.proofs.Finds.{if_some_two, if_some_same}
 use Rattle.dali_verify.proofs.Logs.{file_bad, file_read}
 use Rattle.dali_verify.proofs.reading.read_file.Goals as goal
 

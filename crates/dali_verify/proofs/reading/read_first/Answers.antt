@@ -1,8 +1,8 @@
 use Rattle.std.proofs.Common.{◌∙◌, sym, subst, rules}
 use Rattle.std.specs.Prelude.{IsNone}
 use Rattle.dali_lists.proofs.Options.{if_some_then}
-use Rattle.dali_batch.specs.Log.{HasNoFormat}
-use Rattle.dali_batch.proofs.Finds.{if_some_two, if_some_same}
+use Rattle.dali_log.specs.Log.{HasNoFormat}
+use Rattle.dali_log.proofs.Finds.{if_some_two, if_some_same}
 use Rattle.dali_verify.proofs.Logs.{first_stands, no_first, bad_first}
 use Rattle.dali_verify.proofs.reading.read_first.Goals as goal
 

@@ -1,7 +1,7 @@
 use Rattle.std.proofs.Common.{rules}
 use Rattle.std.proofs.lemmas.Result.{err_from_is_err_and}
-use Rattle.dali_batch.proofs.Finds.{if_some_two, if_some_same}
-use Rattle.dali_batch.proofs.Readings.{reads_then}
+use Rattle.dali_log.proofs.Finds.{if_some_two, if_some_same}
+use Rattle.dali_log.proofs.Readings.{reads_then}
 use Rattle.dali_verify.proofs.Logs.{batch_bad, tail_bad, tail_body_bad, run_more, same_vault}
 use Rattle.dali_verify.proofs.reading.read_on.Goals as goal
 

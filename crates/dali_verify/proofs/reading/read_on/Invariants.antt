@@ -1,8 +1,8 @@
 use Rattle.std.proofs.Common.{◌≡◌, ◌-◌, ◌<◌, ◌^◌, ◌++◌, List, IfSome}
 use Rattle.dali_record.specs.declared.records.Record.{Record}
-use Rattle.dali_batch.specs.Log.{IsRun, records_in}
-use Rattle.dali_batch.specs.Reads.{OnlyReads}
-use Rattle.dali_vault.specs.Vaulted.{with_store}
+use Rattle.dali_log.specs.Log.{IsRun, records_in}
+use Rattle.dali_log.specs.Reads.{OnlyReads}
+use Rattle.dali_core.specs.Vault.Vaulted.{with_store}
 use Rattle.dali_verify.proofs.reading.read_on.Given as goal
 
 abbrev pub invariant-batches : goal.invariant-batches

@@ -3,7 +3,7 @@ use Rattle.std.specs.Prelude.{List, Option, true, None}
 use Rattle.dali_record.specs.declared.operations.Pending.{Pending}
 use Rattle.dali_record.specs.declared.operations.Block.{Block}
 use Rattle.dali_record.specs.Spelling.{IsBlock, is_back as takes_back}
-use Rattle.dali_core.specs.declared.operation.Operation.{Operation}
+use Rattle.dali_system.specs.declared.operation.Operation.{Operation}
 use Rattle.dali_calls.specs.Plans.{IsWhole, is_back}
 use Rattle.dali_calls.specs.Fields.{planned_of}
 use Rattle.dali_calls.proofs.Wholes.{back_spelled, back_whole}

@@ -4,7 +4,7 @@ use Rattle.dali_record.specs.declared.operations.Pending.{Pending}
 use Rattle.dali_record.specs.declared.operations.Block.{Block}
 use Rattle.dali_record.specs.Log.{undo_added}
 use Rattle.dali_record.specs.Spelling.{IsBlock, is_forward}
-use Rattle.dali_core.specs.declared.operation.Operation.{Operation}
+use Rattle.dali_system.specs.declared.operation.Operation.{Operation}
 use Rattle.dali_calls.specs.Steps.{adds, most, IsNextBlock}
 use Rattle.dali_calls.specs.Plans.{Planned, IsWhole, is_back}
 use Rattle.dali_calls.specs.Fields.{planned_of}

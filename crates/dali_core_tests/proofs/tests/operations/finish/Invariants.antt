@@ -1,5 +1,5 @@
 use Rattle.std.proofs.Common.{◌≡◌}
-use Rattle.dali_core.specs.UnderWay.{IsUnderWay}
+use Rattle.dali_system.specs.UnderWay.{IsUnderWay}
 use Rattle.dali_core_tests.proofs.tests.operations.finish.Given as goal
 
 abbrev pub invariant-loop-words : goal.invariant-loop-words

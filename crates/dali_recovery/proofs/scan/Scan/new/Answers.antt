@@ -1,6 +1,6 @@
 use Rattle.std.proofs.Common.{refl, sym, subst}
 use Rattle.dali_record.specs.Damage.{Damage}
-use Rattle.dali_taint.specs.Following.{Begins}
+use Rattle.dali_redo.specs.Taint.Following.{Begins}
 use Rattle.dali_recovery.proofs.Epochs.{begins_with}
 use Rattle.dali_recovery.proofs.scan.Scan.new.Goals as goal
 

@@ -17,12 +17,12 @@ returns-clause-step g c = λ precheck.
     let at : c.args.client.now.state ≡ IsAuditing c.in-Auditing.audit c.in-Auditing.next = search rules in
     record {
       goes =
-          stepped g.V.Store.told g.V.Store.may_leave g.V.Store.faults precheck true c.args.core.now.regions.items _ c.args.core.now.system.state c.args.core.now.system.state c.args.core.now.vault c.args.core.now.vault
+          stepped g.V.Store precheck true c.args.core.now.regions.items _ c.args.core.now.system.state c.args.core.now.system.state c.args.core.now.vault c.args.core.now.vault
           c.args.client.now c.args.client.now _ (IsAuditing c.in-Auditing.audit c.in-Auditing.next) at (record { rest = refl; client = refl; lines = refl })
-          (passes_goes g.V.Store.told g.V.Store.may_leave g.V.Store.faults precheck c.args.client.now _ c.args.core.now.regions.items c.args.core.now.system.state c.args.core.now.vault c.in-Auditing.audit c.in-Auditing.next c.index_mut.result.now c.pass.new.region
+          (passes_goes g.V.Store precheck c.args.client.now _ c.args.core.now.regions.items c.args.core.now.system.state c.args.core.now.vault c.in-Auditing.audit c.in-Auditing.next c.index_mut.result.now c.pass.new.region
           (lent_there c.args.core.now.regions.items c.in-Auditing.next c.index_mut.result.now within c.index_mut.ensures.value) c.pass.ensures.region c.pass.new.self c.pass.ensures.found refl _ refl);
       places = checked_go _ _ _ _ _ c.in-Auditing.next c.index_mut.result.now c.pass.new.region (lent_there c.args.core.now.regions.items c.in-Auditing.next c.index_mut.result.now within c.index_mut.ensures.value) c.pass.ensures.region tt tt;
-      any_moment = leaves_still g.V.Store.told g.V.Store.may_leave g.V.Store.faults g.V.Store.moment g.V.Store.left_since c.args.client.now.state c.args.client.now c.args.core.now.regions.items c.args.core.now.system.state _ c.args.core.now.vault _ (λ d past. g.met.V.Store.only_now c.args.core.now.vault.store d past) refl;
+      any_moment = leaves_still g.V.Store c.args.client.now.state c.args.client.now c.args.core.now.regions.items c.args.core.now.system.state _ c.args.core.now.vault _ (λ d past. g.met.V.Store.only_now c.args.core.now.vault.store d past) refl;
       refuses = passes_on _ _ precheck c.args.client.now _ c.args.core.now.regions.items c.args.core.now.system.state _ c.in-Auditing.audit c.in-Auditing.next at within;
     }
 
@@ -32,12 +32,12 @@ returns-then-not-waits-clause-step g c = λ precheck.
     let at : c.args.client.now.state ≡ IsAuditing c.in-Auditing.audit c.in-Auditing.next = search rules in
     record {
       goes =
-          stepped g.V.Store.told g.V.Store.may_leave g.V.Store.faults precheck (is_ok c.no_run.result) c.args.core.now.regions.items _ c.args.core.now.system.state _ c.args.core.now.vault _
+          stepped g.V.Store precheck (is_ok c.no_run.result) c.args.core.now.regions.items _ c.args.core.now.system.state _ c.args.core.now.vault _
           c.args.client.now c.args.client.now _ (IsAuditing c.in-Auditing.audit c.in-Auditing.next) at (record { rest = refl; client = refl; lines = refl })
-          (never_goes g.V.Store.told g.V.Store.may_leave g.V.Store.faults precheck (IsAuditing c.in-Auditing.audit c.in-Auditing.next) c.args.client.now c.args.core.now.regions.items c.args.core.now.system.state c.args.core.now.vault (slice_get c.in-Auditing.audit.findings c.in-Auditing.next ≡ Some Waiting) _ _ _ _ _
-          (may_pass g.V.Store.told g.V.Store.may_leave g.V.Store.faults precheck c.args.client.now c.args.client.now c.args.core.now.regions.items c.args.core.now.system.state c.args.core.now.vault c.in-Auditing.audit c.in-Auditing.next within)
+          (never_goes g.V.Store precheck (IsAuditing c.in-Auditing.audit c.in-Auditing.next) c.args.client.now c.args.core.now.regions.items c.args.core.now.system.state c.args.core.now.vault (slice_get c.in-Auditing.audit.findings c.in-Auditing.next ≡ Some Waiting) _ _ _ _ _
+          (may_pass g.V.Store precheck c.args.client.now c.args.client.now c.args.core.now.regions.items c.args.core.now.system.state c.args.core.now.vault c.in-Auditing.audit c.in-Auditing.next within)
           (λ is. let waits : c.waits.result ≡ true = c.waits.ensures.told is in search rules));
       places = search rules;
-      any_moment = leaves_still g.V.Store.told g.V.Store.may_leave g.V.Store.faults g.V.Store.moment g.V.Store.left_since c.args.client.now.state c.args.client.now c.args.core.now.regions.items c.args.core.now.system.state _ c.args.core.now.vault _ (λ d past. g.met.V.Store.only_now c.args.core.now.vault.store d past) refl;
+      any_moment = leaves_still g.V.Store c.args.client.now.state c.args.client.now c.args.core.now.regions.items c.args.core.now.system.state _ c.args.core.now.vault _ (λ d past. g.met.V.Store.only_now c.args.core.now.vault.store d past) refl;
       refuses = refuses_none _ _ precheck c.args.client.now _ c.args.core.now.regions.items c.args.core.now.system.state c.no_run.result c.no_run.ensures c.args.client.now.state;
     }

@@ -1,12 +1,12 @@
 use Rattle.std.proofs.Common.{◌≡◌, ℕ, Bool, true, List, Option, ap, refl, subst, ◌∙◌, Some, sym}
 use Rattle.dali_calls.specs.Plans.{Planned, is_answered}
-use Rattle.dali_core.specs.Served.{Served}
+use Rattle.dali_system.specs.Served.{Served}
 use Rattle.dali_region.specs.State.{RegionState}
 use Rattle.dali_store.specs.Store.{Files as Disk}
-use Rattle.dali_system.specs.State.{SystemState}
-use Rattle.dali_vault.specs.Vaulted.{Vaulted}
-use Rattle.dali_single.specs.Refusals.{IsUnanswered, IsRefusedIn}
-use Rattle.dali_single.specs.declared.error.StepError.TheVariants.{System as BySystem}
+use Rattle.dali_runs.specs.State.{SystemState}
+use Rattle.dali_core.specs.Vault.Vaulted.{Vaulted}
+use Rattle.dali_calls.specs.Single.Refusals.{IsUnanswered, IsRefusedIn}
+use Rattle.dali_calls.specs.declared.single.error.StepError.TheVariants.{System as BySystem}
 use Rattle.dali_turns.specs.declared.client.Client.{Client}
 use Rattle.dali_turns.specs.declared.client.Transaction.{Transaction}
 use Rattle.dali_turns.specs.Goes.{StepGoes}
@@ -16,17 +16,18 @@ use Rattle.dali_turns.proofs.Commands.{err_false}
 use Rattle.dali_turns.proofs.CallSteps.{answered_goes, answered_silently, unanswered_goes, command_of_call, before_answer}
 use Rattle.dali_turns.proofs.Placed.{places_still, at_state, refused_reaches}
 use Rattle.dali_record.specs.declared.records.Record.TheVariants.{Done}
-use Rattle.dali_system.specs.Keeps.{HasRoom}
-use Rattle.dali_core.specs.declared.want.Want.{Want}
+use Rattle.dali_store.specs.declared.store.Store.{Ghosts}
+use Rattle.dali_runs.specs.Keeps.{HasRoom}
+use Rattle.dali_system.specs.declared.want.Want.{Want}
 use Rattle.dali_calls.specs.Steps.{answer_of}
 use Rattle.dali_turns.specs.Calls.{IsRefusedBy}
 use Rattle.dali_turns.proofs.Meeting.{answer_met, met_by, refused_met, on_no_ok}
 use Rattle.dali_turns.proofs.steps.calls.answer.Goals as goal
 
 -- of the plan that the box lent
-by_plan : {V : Type 0} (told : V → Option Disk) (may_leave : V → Disk → Type 0) (faults : V → ℕ) (precheck : Bool) (x : Transaction) (k j : Client) (gs : List RegionState) (y z : SystemState) (v : Vaulted V) (ok : Bool) (p q : Planned) → p ≡ q
-    → StepGoes told may_leave faults precheck (Calling x p) k gs y v ok j gs z v → StepGoes told may_leave faults precheck (Calling x q) k gs y v ok j gs z v
-by_plan told may_leave faults precheck x k j gs y z v ok p q e goes = subst (λ (m : Planned). StepGoes told may_leave faults precheck (Calling x m) k gs y v ok j gs z v) e goes
+by_plan : {V : Type 0} (means : Ghosts V) (precheck : Bool) (x : Transaction) (k j : Client) (gs : List RegionState) (y z : SystemState) (v : Vaulted V) (ok : Bool) (p q : Planned) → p ≡ q
+    → StepGoes means precheck (Calling x p) k gs y v ok j gs z v → StepGoes means precheck (Calling x q) k gs y v ok j gs z v
+by_plan means precheck x k j gs y z v ok p q e goes = subst (λ (m : Planned). StepGoes means precheck (Calling x m) k gs y v ok j gs z v) e goes
 
 pub refused-requires-clause-next : goal.refused-requires-clause-next
 refused-requires-clause-next g c = command_of_call (next_of c.args.client.now) c.args.call c.requires.called
@@ -44,21 +45,21 @@ refused-requires-clause-before g c =
 pub returns-in_err-finish-in-Ok-clause-goes : goal.returns-in_err-finish-in-Ok-clause-goes
 returns-in_err-finish-in-Ok-clause-goes g c = λ precheck.
     let held : c.deref_mut.result.now ≡ c.args.plan = c.deref_mut.ensures.value ∙ c.plan.view_is in
-    by_plan g.V.Store.told g.V.Store.may_leave g.V.Store.faults precheck c.args.transaction c.args.client.now c.finish.new.self c.args.core.now.regions.items c.args.core.now.system.state c.answer.new.system.state c.args.core.now.vault _ c.deref_mut.result.now c.args.plan held
-    (answered_silently g.V.Store.told g.V.Store.may_leave g.V.Store.faults precheck c.args.core.now.regions.items c.args.core.now.system.state c.args.core.now.vault c.args.client.now c.finish.new.self c.args.transaction c.deref_mut.result.now
+    by_plan g.V.Store precheck c.args.transaction c.args.client.now c.finish.new.self c.args.core.now.regions.items c.args.core.now.system.state c.answer.new.system.state c.args.core.now.vault _ c.deref_mut.result.now c.args.plan held
+    (answered_silently g.V.Store precheck c.args.core.now.regions.items c.args.core.now.system.state c.args.core.now.vault c.args.client.now c.finish.new.self c.args.transaction c.deref_mut.result.now
     c.in-Ok.answer c.answer.new.system.state _ (err_false c.from_residual.result c.from_residual.ensures.0) (ap (λ (z : Served). z.state) c.in-Ok.ensures.ok) c.in-Ok.ensures.answers c.in_err-finish-in-Ok.ensures.err)
 
 pub returns-in_ok-finish-in-Ok-clause-goes : goal.returns-in_ok-finish-in-Ok-clause-goes
 returns-in_ok-finish-in-Ok-clause-goes g c = λ precheck.
     let held : c.deref_mut.result.now ≡ c.args.plan = c.deref_mut.ensures.value ∙ c.plan.view_is in
-    by_plan g.V.Store.told g.V.Store.may_leave g.V.Store.faults precheck c.args.transaction c.args.client.now c.finish.new.self c.args.core.now.regions.items c.args.core.now.system.state c.answer.new.system.state c.args.core.now.vault true c.deref_mut.result.now c.args.plan held
-    (answered_goes g.V.Store.told g.V.Store.may_leave g.V.Store.faults precheck c.args.core.now.regions.items c.args.core.now.system.state c.args.core.now.vault c.args.client.now c.finish.new.self c.args.transaction c.deref_mut.result.now
+    by_plan g.V.Store precheck c.args.transaction c.args.client.now c.finish.new.self c.args.core.now.regions.items c.args.core.now.system.state c.answer.new.system.state c.args.core.now.vault true c.deref_mut.result.now c.args.plan held
+    (answered_goes g.V.Store precheck c.args.core.now.regions.items c.args.core.now.system.state c.args.core.now.vault c.args.client.now c.finish.new.self c.args.transaction c.deref_mut.result.now
     c.args.call c.in-Ok.answer c.answer.new.system.state c.requires.called (ap (λ (z : Served). z.state) c.in-Ok.ensures.ok) c.in-Ok.ensures.answers c.in_ok-finish-in-Ok.ensures.ok)
 
 pub returns-in-Err-clause-goes : goal.returns-in-Err-clause-goes
 returns-in-Err-clause-goes g c = λ precheck.
     let held : c.deref_mut.result.now ≡ c.args.plan = c.deref_mut.ensures.value ∙ c.plan.view_is in
-    unanswered_goes g.V.Store.told g.V.Store.may_leave g.V.Store.faults precheck c.args.core.now.regions.items c.args.core.now.system.state c.args.core.now.vault c.args.client.now c.refused.new.client c.args.transaction c.args.plan
+    unanswered_goes g.V.Store precheck c.args.core.now.regions.items c.args.core.now.system.state c.args.core.now.vault c.args.client.now c.refused.new.client c.args.transaction c.args.plan
     c.answer.new.plan c.answer.new.system.state c.in-Err.error c.refused.result (c.in-Err.ensures.err.0 ∙ held) (ap (λ (z : Served). z.state) c.in-Err.ensures.err.1) c.requires.whole c.requires.wants (subst (λ (p : Planned). IsUnanswered p c.args.core.now.system.state (BySystem c.in-Err.error)) held c.in-Err.ensures.cause) c.refused.ensures
 
 pub returns-in_err-finish-in-Ok-clause-places : goal.returns-in_err-finish-in-Ok-clause-places

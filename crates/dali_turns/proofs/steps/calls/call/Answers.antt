@@ -1,6 +1,6 @@
 use Rattle.std.proofs.Common.{◌≡◌, Some, None, true, false, ap, refl, sym, subst, ◌∙◌}
 use Rattle.dali_calls.specs.Plans.{Planned, want_of}
-use Rattle.dali_single.specs.Stands.{IsAtRest}
+use Rattle.dali_calls.specs.Single.Stands.{IsAtRest}
 use Rattle.dali_turns.specs.declared.client.State.TheVariants.{Outside, Calling}
 use Rattle.dali_turns.specs.Calls.{call_in}
 use Rattle.dali_turns.proofs.Here.{in_no_run}
@@ -11,17 +11,17 @@ use Rattle.dali_turns.proofs.steps.calls.call.Goals as goal
 
 pub returns-in_default-clause-goes : goal.returns-in_default-clause-goes
 returns-in_default-clause-goes g c =
-    in_no_run g.V.Store.told g.V.Store.may_leave g.V.Store.faults c.args.setting.now.precheck c.args.client.now c.args.core.now.regions.items c.args.core.now.system.state c.args.core.now.vault _ c.args.client.now c.args.core.now.regions.items c.args.core.now.system.state c.args.core.now.vault (Calling c.args.transaction c.args.plan)
-    (λ may. let there = command_there g.V.Store.told g.V.Store.may_leave g.V.Store.faults c.args.core.now.regions.items c.args.core.now.system.state c.args.core.now.vault c.args.client.now c.args.transaction c.args.plan may in let none : None ≡ Some there.0 = sym c.in_default.is ∙ (c.called.ensures ∙ ap call_in there.1) in absurd (cc))
+    in_no_run g.V.Store c.args.setting.now.precheck c.args.client.now c.args.core.now.regions.items c.args.core.now.system.state c.args.core.now.vault _ c.args.client.now c.args.core.now.regions.items c.args.core.now.system.state c.args.core.now.vault (Calling c.args.transaction c.args.plan)
+    (λ may. let there = command_there g.V.Store c.args.core.now.regions.items c.args.core.now.system.state c.args.core.now.vault c.args.client.now c.args.transaction c.args.plan may in let none : None ≡ Some there.0 = sym c.in_default.is ∙ (c.called.ensures ∙ ap call_in there.1) in absurd (cc))
 
 pub returns-then-not-is_at_rest-clause-goes : goal.returns-then-not-is_at_rest-clause-goes
 returns-then-not-is_at_rest-clause-goes g c =
-    in_no_run g.V.Store.told g.V.Store.may_leave g.V.Store.faults c.args.setting.now.precheck c.args.client.now c.args.core.now.regions.items c.args.core.now.system.state c.args.core.now.vault _ c.args.client.now c.args.core.now.regions.items c.args.core.now.system.state c.args.core.now.vault (Calling c.args.transaction c.args.plan)
-    (λ may. let rest : true ≡ false = sym (c.is_at_rest.ensures.told (subst (λ (p : Planned). IsAtRest c.args.core.now.regions.items c.args.core.now.system.state p) (sym c.get-held.ensures) (at_rest g.V.Store.told g.V.Store.may_leave g.V.Store.faults c.args.core.now.regions.items c.args.core.now.system.state c.args.core.now.vault c.args.client.now c.args.transaction c.args.plan may))) ∙ c.if-not-is_at_rest.true in absurd (cc))
+    in_no_run g.V.Store c.args.setting.now.precheck c.args.client.now c.args.core.now.regions.items c.args.core.now.system.state c.args.core.now.vault _ c.args.client.now c.args.core.now.regions.items c.args.core.now.system.state c.args.core.now.vault (Calling c.args.transaction c.args.plan)
+    (λ may. let rest : true ≡ false = sym (c.is_at_rest.ensures.told (subst (λ (p : Planned). IsAtRest c.args.core.now.regions.items c.args.core.now.system.state p) (sym c.get-held.ensures) (at_rest g.V.Store c.args.core.now.regions.items c.args.core.now.system.state c.args.core.now.vault c.args.client.now c.args.transaction c.args.plan may))) ∙ c.if-not-is_at_rest.true in absurd (cc))
 
 pub returns-in-Nothing-clause-goes : goal.returns-in-Nothing-clause-goes
 returns-in-Nothing-clause-goes g c =
-    in_no_run g.V.Store.told g.V.Store.may_leave g.V.Store.faults c.args.setting.now.precheck c.args.client.now c.args.core.now.regions.items c.args.core.now.system.state c.args.core.now.vault _ c.args.client.now c.args.core.now.regions.items c.args.core.now.system.state c.args.core.now.vault (Calling c.args.transaction c.args.plan)
+    in_no_run g.V.Store c.args.setting.now.precheck c.args.client.now c.args.core.now.regions.items c.args.core.now.system.state c.args.core.now.vault _ c.args.client.now c.args.core.now.regions.items c.args.core.now.system.state c.args.core.now.vault (Calling c.args.transaction c.args.plan)
     (λ may. calling_more c.args.plan may.fits.plan_is.phase_is (sym (ap want_of c.get-held.ensures) ∙ (sym c.wants.ensures.wants ∙ c.in-Nothing.is)))
 
 pub returns-in_default-clause-places : goal.returns-in_default-clause-places

@@ -9,7 +9,7 @@ clear_way-requires g c = ap is_some c.requires.next.1
 
 pub returns-clause-goes : goal.returns-clause-goes
 returns-clause-goes g c = λ precheck.
-    call_clears g.V.Store.told g.V.Store.may_leave g.V.Store.faults precheck c.args.client.now c.clear_way.new.client c.args.core.now.regions.items c.clear_way.new.core.regions.items c.args.core.now.system.state c.clear_way.new.core.system.state c.args.core.now.vault c.clear_way.new.core.vault c.args.transaction c.args.holder c.clear_way.ensures.vault c.requires.next.0 c.requires.next.1 (λ may. c.requires.dead) c.clear_way.result c.clear_way.ensures.clears
+    call_clears g.V.Store precheck c.args.client.now c.clear_way.new.client c.args.core.now.regions.items c.clear_way.new.core.regions.items c.args.core.now.system.state c.clear_way.new.core.system.state c.args.core.now.vault c.clear_way.new.core.vault c.args.transaction c.args.holder c.clear_way.ensures.vault c.requires.next.0 c.requires.next.1 (λ may. c.requires.dead) c.clear_way.result c.clear_way.ensures.clears
 
 pub returns-clause-places : goal.returns-clause-places
 returns-clause-places g c =

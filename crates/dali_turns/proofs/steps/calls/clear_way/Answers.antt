@@ -1,8 +1,8 @@
 use Rattle.std.proofs.Common.{◌≡◌, Some, Ok, inl, inr, ap, refl, subst}
-use Rattle.dali_system.specs.declared.causes.Cause.{Cause as IsCause}
+use Rattle.dali_runs.specs.declared.causes.Cause.{Cause as IsCause}
 use Rattle.dali_clean.specs.Cleaned.{MayClean}
-use Rattle.dali_clients.specs.declared.line.Why.{Why}
-use Rattle.dali_clients.specs.declared.line.Why.TheVariants.{Stopped as IsStopped}
+use Rattle.dali_transcripts.specs.declared.clients.line.Why.{Why}
+use Rattle.dali_transcripts.specs.declared.clients.line.Why.TheVariants.{Stopped as IsStopped}
 use Rattle.dali_turns.specs.Clients.{RefusesCall}
 use Rattle.dali_turns.specs.Ends.{IsLeftDead}
 use Rattle.dali_turns.proofs.CleanSteps.{is_some_at, clears_half, clears_silently}

@@ -1,7 +1,7 @@
 use Rattle.std.proofs.Common.{ap, refl, subst, ◌∙◌}
 use Rattle.std.proofs.lemmas.Result.{on_ok_weaker}
-use Rattle.dali_single.specs.declared.error.StepError.TheVariants.{Latch}
-use Rattle.dali_single.specs.Refusals.{IsLatched, IsRefusal}
+use Rattle.dali_calls.specs.declared.single.error.StepError.TheVariants.{Latch}
+use Rattle.dali_calls.specs.Single.Refusals.{IsLatched, IsRefusal}
 use Rattle.dali_turns.specs.Clients.{next_of}
 use Rattle.dali_turns.specs.declared.client.State.TheVariants.{Outside, Calling}
 use Rattle.dali_turns.proofs.Here.{in_no_run}
@@ -26,19 +26,19 @@ turn_back-requires-clause-before g c = before_operation c.args.plan c.args.regio
 
 pub returns-in-Latched-clause-goes : goal.returns-in-Latched-clause-goes
 returns-in-Latched-clause-goes g c = λ precheck why.
-    in_no_run g.V.Store.told g.V.Store.may_leave g.V.Store.faults precheck c.args.client.now c.args.core.now.regions.items c.args.core.now.system.state c.args.core.now.vault _ c.args.client.now c.args.core.now.regions.items c.args.core.now.system.state c.args.core.now.vault (Calling c.args.transaction c.args.plan)
-    (λ may. not_held g.V.Store.told g.V.Store.may_leave g.V.Store.faults c.args.core.now.regions.items c.args.core.now.system.state c.args.core.now.vault c.args.client.now c.args.transaction c.args.plan may c.requires.cause.0 c.args.region _ c.requires.makes.wants
+    in_no_run g.V.Store precheck c.args.client.now c.args.core.now.regions.items c.args.core.now.system.state c.args.core.now.vault _ c.args.client.now c.args.core.now.regions.items c.args.core.now.system.state c.args.core.now.vault (Calling c.args.transaction c.args.plan)
+    (λ may. not_held g.V.Store c.args.core.now.regions.items c.args.core.now.system.state c.args.core.now.vault c.args.client.now c.args.transaction c.args.plan may c.requires.cause.0 c.args.region _ c.requires.makes.wants
     (subst (λ e. IsRefusal c.requires.cause.0 c.args.plan c.args.core.now.regions.items c.args.core.now.system.state e) (c.in-Latch.is ∙ ap Latch c.in-Latched.is) c.requires.cause.1))
 
 pub returns-in-Damaged-clause-goes : goal.returns-in-Damaged-clause-goes
 returns-in-Damaged-clause-goes g c = λ precheck why.
-    damage_refuses g.V.Store.told g.V.Store.may_leave g.V.Store.faults precheck c.args.core.now.regions.items c.args.core.now.system.state c.args.core.now.vault c.args.client.now c.turn_back.new.client c.args.transaction c.args.plan c.args.region _ _ c.requires.makes.whole c.requires.makes.wants
+    damage_refuses g.V.Store precheck c.args.core.now.regions.items c.args.core.now.system.state c.args.core.now.vault c.args.client.now c.turn_back.new.client c.args.transaction c.args.plan c.args.region _ _ c.requires.makes.whole c.requires.makes.wants
     (subst (λ e. IsRefusal precheck c.args.plan c.args.core.now.regions.items c.args.core.now.system.state e) (c.in-Latch.is ∙ ap Latch c.in-Damaged.is) why) c.turn_back.ensures
 
 pub returns-in-System-clause-goes : goal.returns-in-System-clause-goes
 returns-in-System-clause-goes g c = λ precheck why.
-    by_lines g.V.Store.told g.V.Store.may_leave g.V.Store.faults precheck (Calling c.args.transaction c.args.plan) c.args.client.now _ c.refused.new.client c.args.core.now.regions.items c.args.core.now.regions.items c.args.core.now.system.state c.args.core.now.system.state c.args.core.now.vault c.args.core.now.vault _ refl refl
-    (system_refuses g.V.Store.told g.V.Store.may_leave g.V.Store.faults precheck c.args.core.now.regions.items c.args.core.now.system.state c.args.core.now.vault _ c.refused.new.client c.args.transaction c.args.plan c.args.region c.in-System.cause c.refused.result c.requires.makes.whole c.requires.makes.wants
+    by_lines g.V.Store precheck (Calling c.args.transaction c.args.plan) c.args.client.now _ c.refused.new.client c.args.core.now.regions.items c.args.core.now.regions.items c.args.core.now.system.state c.args.core.now.system.state c.args.core.now.vault c.args.core.now.vault _ refl refl
+    (system_refuses g.V.Store precheck c.args.core.now.regions.items c.args.core.now.system.state c.args.core.now.vault _ c.refused.new.client c.args.transaction c.args.plan c.args.region c.in-System.cause c.refused.result c.requires.makes.whole c.requires.makes.wants
     (subst (λ e. IsRefusal precheck c.args.plan c.args.core.now.regions.items c.args.core.now.system.state e) c.in-System.is why)
     (λ way deadly. subst IsLatched c.in-System.is (c.requires.lives way deadly)) c.refused.ensures)
 
@@ -48,8 +48,8 @@ returns-in-System-clause-points g c = λ cause is.
 
 pub returns-in-DeadHolder-clause-goes : goal.returns-in-DeadHolder-clause-goes
 returns-in-DeadHolder-clause-goes g c = λ precheck why.
-    operate_clears g.V.Store.told g.V.Store.may_leave g.V.Store.faults precheck c.args.client.now c.clear_way.new.client c.args.core.now.regions.items c.clear_way.new.core.regions.items c.args.core.now.system.state c.clear_way.new.core.system.state c.args.core.now.vault c.clear_way.new.core.vault c.args.transaction c.in-DeadHolder.txn c.clear_way.ensures.vault c.args.plan
-    (λ may. holder_is_dead g.V.Store.told g.V.Store.may_leave g.V.Store.faults (Calling c.args.transaction c.args.plan) c.args.client.now c.args.core.now.regions.items c.args.core.now.system.state c.args.core.now.vault may c.requires.cause.0 c.args.plan c.args.region c.in-DeadHolder.txn c.requires.makes.wants (subst (λ e. IsRefusal c.requires.cause.0 c.args.plan c.args.core.now.regions.items c.args.core.now.system.state e) (c.in-Latch.is ∙ ap Latch c.in-DeadHolder.is) c.requires.cause.1))
+    operate_clears g.V.Store precheck c.args.client.now c.clear_way.new.client c.args.core.now.regions.items c.clear_way.new.core.regions.items c.args.core.now.system.state c.clear_way.new.core.system.state c.args.core.now.vault c.clear_way.new.core.vault c.args.transaction c.in-DeadHolder.txn c.clear_way.ensures.vault c.args.plan
+    (λ may. holder_is_dead g.V.Store (Calling c.args.transaction c.args.plan) c.args.client.now c.args.core.now.regions.items c.args.core.now.system.state c.args.core.now.vault may c.requires.cause.0 c.args.plan c.args.region c.in-DeadHolder.txn c.requires.makes.wants (subst (λ e. IsRefusal c.requires.cause.0 c.args.plan c.args.core.now.regions.items c.args.core.now.system.state e) (c.in-Latch.is ∙ ap Latch c.in-DeadHolder.is) c.requires.cause.1))
     c.clear_way.result c.clear_way.ensures.clears
 
 pub returns-in-DeadHolder-clause-places : goal.returns-in-DeadHolder-clause-places

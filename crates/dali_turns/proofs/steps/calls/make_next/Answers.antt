@@ -1,10 +1,10 @@
 use Rattle.std.proofs.Common.{◌≡◌, ◌∙◌, List, OnOk, length, ap, sym, subst, rules}
 use Rattle.dali_calls.specs.Plans.{Planned}
-use Rattle.dali_core.specs.Served.{Served}
+use Rattle.dali_system.specs.Served.{Served}
 use Rattle.dali_region.specs.State.{RegionState}
 use Rattle.dali_calls.proofs.Flags.{flags_equal}
-use Rattle.dali_stepwise.specs.Stepwise.{OneFurther}
-use Rattle.dali_whole.proofs.CleanedUp.{put_back}
+use Rattle.dali_calls.specs.Stepwise.Stepwise.{OneFurther}
+use Rattle.dali_core.proofs.CleanedUp.{put_back}
 use Rattle.dali_turns.proofs.CallSteps.{on_err}
 use Rattle.dali_turns.proofs.Flags.{flags_of, further_flags}
 use Rattle.dali_turns.proofs.steps.calls.make_next.Goals as goal

@@ -4,18 +4,18 @@ use Rattle.dali_turns.specs.Goes.{StepGoes}
 use Rattle.dali_turns.specs.declared.client.State.TheVariants.{Calling as IsCalling}
 use Rattle.dali_turns.proofs.CallSteps.{operated_goes, some_next, makes_still, refused_still, goes_still, vault_still}
 use Rattle.dali_turns.proofs.Placed.{places_beside, places_then}
-use Rattle.dali_system.specs.State.{SystemState}
+use Rattle.dali_runs.specs.State.{SystemState}
 use Rattle.dali_turns.specs.Refuses.{IsMet}
 use Rattle.dali_turns.proofs.Meeting.{further_met, met_by}
 use Rattle.dali_turns.proofs.steps.calls.operate.Goals as goal
 
 pub make_next-requires-clause-wants : goal.make_next-requires-clause-wants
-make_next-requires-clause-wants g c = some_next g.V.Store.told g.V.Store.may_leave g.V.Store.faults c.args.core.now.regions.items c.args.core.now.system.state c.args.core.now.vault c.args.client.now c.args.transaction c.args.plan c.args.region c.requires.makes.wants
+make_next-requires-clause-wants g c = some_next g.V.Store c.args.core.now.regions.items c.args.core.now.system.state c.args.core.now.vault c.args.client.now c.args.transaction c.args.plan c.args.region c.requires.makes.wants
 
 pub returns-in-Ok-clause-goes : goal.returns-in-Ok-clause-goes
 returns-in-Ok-clause-goes g c =
-    vault_still g.V.Store.told g.V.Store.may_leave g.V.Store.faults c.args.setting.now.precheck (IsCalling c.args.transaction c.args.plan) c.args.client.now _ c.args.core.now.regions.items c.make_next.new.core.regions.items c.args.core.now.system.state c.make_next.new.core.system.state c.args.core.now.vault c.make_next.new.core.vault _ c.in-Ok.ensures.vault
-    (operated_goes g.V.Store.told g.V.Store.may_leave g.V.Store.faults c.args.setting.now.precheck c.args.core.now.regions.items c.args.core.now.system.state c.args.core.now.vault c.args.client.now _ c.args.transaction c.args.plan
+    vault_still g.V.Store c.args.setting.now.precheck (IsCalling c.args.transaction c.args.plan) c.args.client.now _ c.args.core.now.regions.items c.make_next.new.core.regions.items c.args.core.now.system.state c.make_next.new.core.system.state c.args.core.now.vault c.make_next.new.core.vault _ c.in-Ok.ensures.vault
+    (operated_goes g.V.Store c.args.setting.now.precheck c.args.core.now.regions.items c.args.core.now.system.state c.args.core.now.vault c.args.client.now _ c.args.transaction c.args.plan
     c.make_next.new.core.regions.items c.make_next.new.core.system.state c.make_next.new.plan c.further-transaction.result c.args.onward c.requires.makes.whole c.in-Ok.ensures.further c.requires.way c.requires.lives c.further-transaction.ensures refl refl refl)
 
 pub hindered-requires-clause-makes : goal.hindered-requires-clause-makes
@@ -29,9 +29,9 @@ hindered-requires-clause-lives g c = λ way deadly. absurd (c.requires.lives (c.
 
 pub returns-in-Err-clause-goes : goal.returns-in-Err-clause-goes
 returns-in-Err-clause-goes g c =
-    goes_still g.V.Store.told g.V.Store.may_leave g.V.Store.faults c.args.client.now c.args.core.now.regions.items c.make_next.new.core.regions.items c.args.core.now.system.state c.make_next.new.core.system.state c.args.core.now.vault c.make_next.new.core.vault c.in-Err.ensures.err.1 c.in-Err.ensures.err.2 c.in-Err.ensures.vault
+    goes_still g.V.Store c.args.client.now c.args.core.now.regions.items c.make_next.new.core.regions.items c.args.core.now.system.state c.make_next.new.core.system.state c.args.core.now.vault c.make_next.new.core.vault c.in-Err.ensures.err.1 c.in-Err.ensures.err.2 c.in-Err.ensures.vault
     c.args.setting.now.precheck (IsCalling c.args.transaction c.args.plan) _ _ _ _ _
-    (subst (λ (m : Planned). StepGoes g.V.Store.told g.V.Store.may_leave g.V.Store.faults c.args.setting.now.precheck (IsCalling c.args.transaction m) c.args.client.now c.make_next.new.core.regions.items c.make_next.new.core.system.state c.make_next.new.core.vault (is_ok c.hindered.result) c.hindered.new.client c.hindered.new.core.regions.items c.hindered.new.core.system.state c.hindered.new.core.vault) c.in-Err.ensures.err.0
+    (subst (λ (m : Planned). StepGoes g.V.Store c.args.setting.now.precheck (IsCalling c.args.transaction m) c.args.client.now c.make_next.new.core.regions.items c.make_next.new.core.system.state c.make_next.new.core.vault (is_ok c.hindered.result) c.hindered.new.client c.hindered.new.core.regions.items c.hindered.new.core.system.state c.hindered.new.core.vault) c.in-Err.ensures.err.0
     (c.hindered.ensures.goes c.args.setting.now.precheck (refused_still c.args.core.now.regions.items c.make_next.new.core.regions.items c.args.core.now.system.state c.make_next.new.core.system.state c.in-Err.ensures.err.1 c.in-Err.ensures.err.2 c.args.plan c.make_next.new.plan c.in-Err.ensures.err.0 c.args.setting.now.precheck c.in-Err.error c.in-Err.ensures.cause)))
 
 pub returns-in-Ok-clause-places : goal.returns-in-Ok-clause-places

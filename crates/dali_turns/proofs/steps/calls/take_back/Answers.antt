@@ -1,6 +1,6 @@
 use Rattle.std.proofs.Common.{◌≡◌, true, false, is_some, ap, refl, sym, subst, ◌∙◌}
 use Rattle.dali_calls.specs.Plans.{Planned, IsWhole, want_of}
-use Rattle.dali_single.specs.Stands.{IsAtRest}
+use Rattle.dali_calls.specs.Single.Stands.{IsAtRest}
 use Rattle.dali_turns.specs.declared.client.State.TheVariants.{Outside, Within, TakingBack}
 use Rattle.dali_turns.specs.Clients.{next_of}
 use Rattle.dali_turns.specs.Calls.{call_in}
@@ -8,7 +8,7 @@ use Rattle.dali_turns.proofs.Here.{in_no_run}
 use Rattle.dali_turns.proofs.Commands.{err_false}
 use Rattle.dali_turns.proofs.CallSteps.{some_command, back_at_rest, back_command, never_done, ends_back, ends_back_silently}
 use Rattle.dali_turns.proofs.Placed.{places_still, at_state, call_refused}
-use Rattle.dali_core.specs.declared.want.Want.TheVariants.{Region, Nothing}
+use Rattle.dali_system.specs.declared.want.Want.TheVariants.{Region, Nothing}
 use Rattle.dali_turns.proofs.Meeting.{done_met, says_call}
 use Rattle.dali_turns.proofs.AtOnce.{refuses_none}
 use Rattle.dali_turns.proofs.steps.calls.take_back.Goals as goal
@@ -18,27 +18,27 @@ refuse_call-requires g c = some_command (next_of c.args.client.now) (sym c.is_ca
 
 pub returns-then-not-is_called-clause-goes : goal.returns-then-not-is_called-clause-goes
 returns-then-not-is_called-clause-goes g c =
-    in_no_run g.V.Store.told g.V.Store.may_leave g.V.Store.faults c.args.setting.now.precheck c.args.client.now c.args.core.now.regions.items c.args.core.now.system.state c.args.core.now.vault _ c.args.client.now c.args.core.now.regions.items c.args.core.now.system.state c.args.core.now.vault (TakingBack c.args.transaction c.args.plan c.args.why)
-    (λ may. let there : true ≡ false = sym (c.is_called.ensures ∙ ap (λ o. is_some (call_in o)) (back_command g.V.Store.told g.V.Store.may_leave g.V.Store.faults c.args.core.now.regions.items c.args.core.now.system.state c.args.core.now.vault c.args.client.now c.args.transaction c.args.plan c.args.why may).1) ∙ c.if-not-is_called.true in absurd (cc))
+    in_no_run g.V.Store c.args.setting.now.precheck c.args.client.now c.args.core.now.regions.items c.args.core.now.system.state c.args.core.now.vault _ c.args.client.now c.args.core.now.regions.items c.args.core.now.system.state c.args.core.now.vault (TakingBack c.args.transaction c.args.plan c.args.why)
+    (λ may. let there : true ≡ false = sym (c.is_called.ensures ∙ ap (λ o. is_some (call_in o)) (back_command g.V.Store c.args.core.now.regions.items c.args.core.now.system.state c.args.core.now.vault c.args.client.now c.args.transaction c.args.plan c.args.why may).1) ∙ c.if-not-is_called.true in absurd (cc))
 
 pub returns-then-not-is_at_rest-clause-goes : goal.returns-then-not-is_at_rest-clause-goes
 returns-then-not-is_at_rest-clause-goes g c =
-    in_no_run g.V.Store.told g.V.Store.may_leave g.V.Store.faults c.args.setting.now.precheck c.args.client.now c.args.core.now.regions.items c.args.core.now.system.state c.args.core.now.vault _ c.args.client.now c.args.core.now.regions.items c.args.core.now.system.state c.args.core.now.vault (TakingBack c.args.transaction c.args.plan c.args.why)
-    (λ may. let rest : true ≡ false = sym (c.is_at_rest.ensures.told (subst (λ (p : Planned). IsAtRest c.args.core.now.regions.items c.args.core.now.system.state p) (sym c.get-held.ensures) (back_at_rest g.V.Store.told g.V.Store.may_leave g.V.Store.faults c.args.core.now.regions.items c.args.core.now.system.state c.args.core.now.vault c.args.client.now c.args.transaction c.args.plan c.args.why may))) ∙ c.if-not-is_at_rest.true in absurd (cc))
+    in_no_run g.V.Store c.args.setting.now.precheck c.args.client.now c.args.core.now.regions.items c.args.core.now.system.state c.args.core.now.vault _ c.args.client.now c.args.core.now.regions.items c.args.core.now.system.state c.args.core.now.vault (TakingBack c.args.transaction c.args.plan c.args.why)
+    (λ may. let rest : true ≡ false = sym (c.is_at_rest.ensures.told (subst (λ (p : Planned). IsAtRest c.args.core.now.regions.items c.args.core.now.system.state p) (sym c.get-held.ensures) (back_at_rest g.V.Store c.args.core.now.regions.items c.args.core.now.system.state c.args.core.now.vault c.args.client.now c.args.transaction c.args.plan c.args.why may))) ∙ c.if-not-is_at_rest.true in absurd (cc))
 
 pub returns-in-Done-clause-goes : goal.returns-in-Done-clause-goes
 returns-in-Done-clause-goes g c =
-    in_no_run g.V.Store.told g.V.Store.may_leave g.V.Store.faults c.args.setting.now.precheck c.args.client.now c.args.core.now.regions.items c.args.core.now.system.state c.args.core.now.vault _ c.args.client.now c.args.core.now.regions.items c.args.core.now.system.state c.args.core.now.vault (TakingBack c.args.transaction c.args.plan c.args.why)
-    (λ may. never_done g.V.Store.told g.V.Store.may_leave g.V.Store.faults c.args.core.now.regions.items c.args.core.now.system.state c.args.core.now.vault c.args.client.now c.args.transaction c.args.plan c.args.why may (sym (ap want_of c.get-held.ensures) ∙ (sym c.wants.ensures.wants ∙ c.in-Done.is)))
+    in_no_run g.V.Store c.args.setting.now.precheck c.args.client.now c.args.core.now.regions.items c.args.core.now.system.state c.args.core.now.vault _ c.args.client.now c.args.core.now.regions.items c.args.core.now.system.state c.args.core.now.vault (TakingBack c.args.transaction c.args.plan c.args.why)
+    (λ may. never_done g.V.Store c.args.core.now.regions.items c.args.core.now.system.state c.args.core.now.vault c.args.client.now c.args.transaction c.args.plan c.args.why may (sym (ap want_of c.get-held.ensures) ∙ (sym c.wants.ensures.wants ∙ c.in-Done.is)))
 
 pub returns-in_err-refuse_call-in-Nothing-clause-goes : goal.returns-in_err-refuse_call-in-Nothing-clause-goes
 returns-in_err-refuse_call-in-Nothing-clause-goes g c =
-    ends_back_silently g.V.Store.told g.V.Store.may_leave g.V.Store.faults c.args.setting.now.precheck c.args.core.now.regions.items c.args.core.now.system.state c.args.core.now.vault c.args.client.now c.refuse_call.new.self c.args.transaction c.args.plan c.args.why _ (subst IsWhole c.get-held.ensures c.wants.ensures.whole) (sym (ap want_of c.get-held.ensures) ∙ (sym c.wants.ensures.wants ∙ c.in-Nothing.is))
+    ends_back_silently g.V.Store c.args.setting.now.precheck c.args.core.now.regions.items c.args.core.now.system.state c.args.core.now.vault c.args.client.now c.refuse_call.new.self c.args.transaction c.args.plan c.args.why _ (subst IsWhole c.get-held.ensures c.wants.ensures.whole) (sym (ap want_of c.get-held.ensures) ∙ (sym c.wants.ensures.wants ∙ c.in-Nothing.is))
     (err_false c.from_residual.result c.from_residual.ensures.0) c.in_err-refuse_call-in-Nothing.ensures.err.transcript
 
 pub returns-in_ok-refuse_call-in-Nothing-clause-goes : goal.returns-in_ok-refuse_call-in-Nothing-clause-goes
 returns-in_ok-refuse_call-in-Nothing-clause-goes g c =
-    ends_back g.V.Store.told g.V.Store.may_leave g.V.Store.faults c.args.setting.now.precheck c.args.core.now.regions.items c.args.core.now.system.state c.args.core.now.vault c.args.client.now c.refuse_call.new.self c.args.transaction c.args.plan c.args.why (subst IsWhole c.get-held.ensures c.wants.ensures.whole) (sym (ap want_of c.get-held.ensures) ∙ (sym c.wants.ensures.wants ∙ c.in-Nothing.is))
+    ends_back g.V.Store c.args.setting.now.precheck c.args.core.now.regions.items c.args.core.now.system.state c.args.core.now.vault c.args.client.now c.refuse_call.new.self c.args.transaction c.args.plan c.args.why (subst IsWhole c.get-held.ensures c.wants.ensures.whole) (sym (ap want_of c.get-held.ensures) ∙ (sym c.wants.ensures.wants ∙ c.in-Nothing.is))
     c.in_ok-refuse_call-in-Nothing.ensures.ok
 
 pub returns-then-not-is_called-clause-places : goal.returns-then-not-is_called-clause-places

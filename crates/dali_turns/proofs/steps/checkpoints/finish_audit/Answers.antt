@@ -1,7 +1,7 @@
 use Rattle.std.proofs.Common.{◌≡◌, ◌<◌, ◌≤◌, ◌^◌, true, Err, refl, ap, subst, rules, ◌∙◌, sym}
 use Rattle.std.specs.Prelude.{IsSomeAnd}
-use Rattle.dali_core.specs.Served.{Served}
-use Rattle.dali_core.specs.Refused.{stop_of}
+use Rattle.dali_system.specs.Served.{Served}
+use Rattle.dali_system.specs.Refused.{stop_of}
 use Rattle.dali_audit.specs.Findings.{Judged, AllPassed, damaged}
 use Rattle.dali_checkpoint.specs.declared.error.CheckpointError.{CheckpointError}
 use Rattle.dali_turns.specs.declared.client.State.TheVariants.{Certifying as IsCertifying}
@@ -29,16 +29,16 @@ certify-made-requires-clause-audited g c =
 pub returns-in_err-end-in-Ok : goal.returns-in_err-end-in-Ok
 returns-in_err-end-in-Ok g c = record {
   goes = λ precheck.
-      ends_silent_goes g.V.Store.told g.V.Store.may_leave g.V.Store.faults precheck c.args.client.now c.end-in-Ok.new.client c.args.core.now.regions.items c.args.core.now.system.state c.args.core.now.vault c.args.checkpoint c.args.audit c.args.next
+      ends_silent_goes g.V.Store precheck c.args.client.now c.end-in-Ok.new.client c.args.core.now.regions.items c.args.core.now.system.state c.args.core.now.vault c.args.checkpoint c.args.audit c.args.next
       c.requires.all c.in-Ok.ensures.runs c.end.new.system.state c.certify-made.new.system.state c.certify-made.new.vault c.certify-made.result (ap (λ (x : Served). x.state) c.in-Ok.ensures.ok)
-      (certifies_made g.V.Store.told g.V.Store.may_leave g.V.Store.faults c.args.checkpoint c.in-Ok.verdict.failing (damaged c.args.audit.findings) c.end.new.system c.certify-made.new.system c.args.core.now.vault c.certify-made.new.vault c.certify-made.result (ap (λ (x : Judged). x.failing) c.in-Ok.ensures.verdict)
+      (certifies_made g.V.Store c.args.checkpoint c.in-Ok.verdict.failing (damaged c.args.audit.findings) c.end.new.system c.certify-made.new.system c.args.core.now.vault c.certify-made.new.vault c.certify-made.result (ap (λ (x : Judged). x.failing) c.in-Ok.ensures.verdict)
       c.certify-made.ensures.ok c.certify-made.ensures.turned c.certify-made.ensures.flag c.certify-made.ensures.kept c.certify-made.ensures.failed c.certify-made.ensures.fault c.certify-made.ensures.files)
       _ (err_false c.from_residual.result c.from_residual.ensures.0) c.in_err-end-in-Ok.ensures.err;
   places = longer_outside _ _ _ _ _ _ _ refl c.certify-made.ensures.files (unsaid_outside _ _ c.certify-made.result c.requires.stands c.in_err-end-in-Ok.ensures.err);
   on = err_on c.from_residual.result c.from_residual.ensures.0;
   any_moment =
-      certify_leaves g.V.Store.told g.V.Store.may_leave g.V.Store.faults g.V.Store.moment g.V.Store.left_since c.args.client.now c.args.core.now.regions.items c.args.core.now.system.state _ c.args.core.now.vault _ (λ d past. g.met.V.Store.only_now c.args.core.now.vault.store d past) c.args.checkpoint c.args.audit c.args.next c.requires.all c.in-Ok.ensures.runs c.end.new.system.state (ap (λ (x : Served). x.state) c.in-Ok.ensures.ok) c.certify-made.result
-      (certifies_made g.V.Store.told g.V.Store.may_leave g.V.Store.faults c.args.checkpoint c.in-Ok.verdict.failing (damaged c.args.audit.findings) c.end.new.system c.certify-made.new.system c.args.core.now.vault c.certify-made.new.vault c.certify-made.result (ap (λ (x : Judged). x.failing) c.in-Ok.ensures.verdict)
+      certify_leaves g.V.Store c.args.client.now c.args.core.now.regions.items c.args.core.now.system.state _ c.args.core.now.vault _ (λ d past. g.met.V.Store.only_now c.args.core.now.vault.store d past) c.args.checkpoint c.args.audit c.args.next c.requires.all c.in-Ok.ensures.runs c.end.new.system.state (ap (λ (x : Served). x.state) c.in-Ok.ensures.ok) c.certify-made.result
+      (certifies_made g.V.Store c.args.checkpoint c.in-Ok.verdict.failing (damaged c.args.audit.findings) c.end.new.system c.certify-made.new.system c.args.core.now.vault c.certify-made.new.vault c.certify-made.result (ap (λ (x : Judged). x.failing) c.in-Ok.ensures.verdict)
       c.certify-made.ensures.ok c.certify-made.ensures.turned c.certify-made.ensures.flag c.certify-made.ensures.kept c.certify-made.ensures.failed c.certify-made.ensures.fault c.certify-made.ensures.files)
       (λ clean. c.certify-made.ensures.any_moment (ap (λ (x : Judged). x.failing) c.in-Ok.ensures.verdict ∙ clean)) (λ bad. c.certify-made.ensures.failing_moment (λ none. bad (sym (ap (λ (x : Judged). x.failing) c.in-Ok.ensures.verdict) ∙ none)));
   refuses = λ cause up. on_no_ok _ c.from_residual.result c.from_residual.ensures.0;
@@ -47,16 +47,16 @@ returns-in_err-end-in-Ok g c = record {
 pub returns-in_ok-end-in-Ok : goal.returns-in_ok-end-in-Ok
 returns-in_ok-end-in-Ok g c = record {
   goes = λ precheck.
-      ends_goes g.V.Store.told g.V.Store.may_leave g.V.Store.faults precheck c.args.client.now c.end-in-Ok.new.client c.args.core.now.regions.items c.args.core.now.system.state c.args.core.now.vault c.args.checkpoint c.args.audit c.args.next
+      ends_goes g.V.Store precheck c.args.client.now c.end-in-Ok.new.client c.args.core.now.regions.items c.args.core.now.system.state c.args.core.now.vault c.args.checkpoint c.args.audit c.args.next
       c.requires.all c.in-Ok.ensures.runs c.end.new.system.state c.certify-made.new.system.state c.certify-made.new.vault c.certify-made.result (ap (λ (x : Served). x.state) c.in-Ok.ensures.ok)
-      (certifies_made g.V.Store.told g.V.Store.may_leave g.V.Store.faults c.args.checkpoint c.in-Ok.verdict.failing (damaged c.args.audit.findings) c.end.new.system c.certify-made.new.system c.args.core.now.vault c.certify-made.new.vault c.certify-made.result (ap (λ (x : Judged). x.failing) c.in-Ok.ensures.verdict)
+      (certifies_made g.V.Store c.args.checkpoint c.in-Ok.verdict.failing (damaged c.args.audit.findings) c.end.new.system c.certify-made.new.system c.args.core.now.vault c.certify-made.new.vault c.certify-made.result (ap (λ (x : Judged). x.failing) c.in-Ok.ensures.verdict)
       c.certify-made.ensures.ok c.certify-made.ensures.turned c.certify-made.ensures.flag c.certify-made.ensures.kept c.certify-made.ensures.failed c.certify-made.ensures.fault c.certify-made.ensures.files)
       c.in_ok-end-in-Ok.ensures.ok;
   places = longer_outside _ _ _ _ _ _ _ refl c.certify-made.ensures.files (ends_outside _ _ c.certify-made.result c.in_ok-end-in-Ok.ensures.ok);
   on = refl;
   any_moment =
-      certify_leaves g.V.Store.told g.V.Store.may_leave g.V.Store.faults g.V.Store.moment g.V.Store.left_since c.args.client.now c.args.core.now.regions.items c.args.core.now.system.state _ c.args.core.now.vault _ (λ d past. g.met.V.Store.only_now c.args.core.now.vault.store d past) c.args.checkpoint c.args.audit c.args.next c.requires.all c.in-Ok.ensures.runs c.end.new.system.state (ap (λ (x : Served). x.state) c.in-Ok.ensures.ok) c.certify-made.result
-      (certifies_made g.V.Store.told g.V.Store.may_leave g.V.Store.faults c.args.checkpoint c.in-Ok.verdict.failing (damaged c.args.audit.findings) c.end.new.system c.certify-made.new.system c.args.core.now.vault c.certify-made.new.vault c.certify-made.result (ap (λ (x : Judged). x.failing) c.in-Ok.ensures.verdict)
+      certify_leaves g.V.Store c.args.client.now c.args.core.now.regions.items c.args.core.now.system.state _ c.args.core.now.vault _ (λ d past. g.met.V.Store.only_now c.args.core.now.vault.store d past) c.args.checkpoint c.args.audit c.args.next c.requires.all c.in-Ok.ensures.runs c.end.new.system.state (ap (λ (x : Served). x.state) c.in-Ok.ensures.ok) c.certify-made.result
+      (certifies_made g.V.Store c.args.checkpoint c.in-Ok.verdict.failing (damaged c.args.audit.findings) c.end.new.system c.certify-made.new.system c.args.core.now.vault c.certify-made.new.vault c.certify-made.result (ap (λ (x : Judged). x.failing) c.in-Ok.ensures.verdict)
       c.certify-made.ensures.ok c.certify-made.ensures.turned c.certify-made.ensures.flag c.certify-made.ensures.kept c.certify-made.ensures.failed c.certify-made.ensures.fault c.certify-made.ensures.files)
       (λ clean. c.certify-made.ensures.any_moment (ap (λ (x : Judged). x.failing) c.in-Ok.ensures.verdict ∙ clean)) (λ bad. c.certify-made.ensures.failing_moment (λ none. bad (sym (ap (λ (x : Judged). x.failing) c.in-Ok.ensures.verdict) ∙ none)));
   refuses = λ cause up. never_up c.args.core.now.system.state.stop cause c.in-Ok.ensures.runs up;
@@ -66,37 +66,37 @@ returns-in_ok-end-in-Ok g c = record {
 pub returns-in_err-give_up-in-Err : goal.returns-in_err-give_up-in-Err
 returns-in_err-give_up-in-Err g c = record {
   goes = λ precheck.
-      so_left g.V.Store.told g.V.Store.may_leave g.V.Store.faults precheck (IsCertifying c.args.checkpoint c.args.audit c.args.next) c.args.client.now c.give_up.new.client c.args.core.now.regions.items c.args.core.now.system.state c.args.core.now.vault _ _ _ _ _ _ _ (ap (λ k. k.regions.items) c.give_up.ensures.system) (ap (λ k. k.system.state) c.give_up.ensures.system) (ap (λ k. k.vault) c.give_up.ensures.system)
-      (unended_silent_goes g.V.Store.told g.V.Store.may_leave g.V.Store.faults precheck c.args.client.now c.give_up.new.client c.args.core.now.regions.items c.args.core.now.system.state c.args.core.now.vault c.args.checkpoint c.args.audit c.args.next c.end.result c.in-Err.error c.end.new.system.state _ c.in-Err.is
+      so_left g.V.Store precheck (IsCertifying c.args.checkpoint c.args.audit c.args.next) c.args.client.now c.give_up.new.client c.args.core.now.regions.items c.args.core.now.system.state c.args.core.now.vault _ _ _ _ _ _ _ (ap (λ k. k.regions.items) c.give_up.ensures.system) (ap (λ k. k.system.state) c.give_up.ensures.system) (ap (λ k. k.vault) c.give_up.ensures.system)
+      (unended_silent_goes g.V.Store precheck c.args.client.now c.give_up.new.client c.args.core.now.regions.items c.args.core.now.system.state c.args.core.now.vault c.args.checkpoint c.args.audit c.args.next c.end.result c.in-Err.error c.end.new.system.state _ c.in-Err.is
       (λ e. c.end.ensures.memory (ap stop_of e)) c.end.ensures.refused (ap (λ (x : Served). x.state) c.in-Err.ensures.err) refl
       _ (err_false c.from_residual-in_err-give_up-in-Err.result c.from_residual-in_err-give_up-in-Err.ensures.0) (subst (λ (e : CheckpointError). Unsaid c.args.client.now (Err e) c.give_up.new.client) c.into.ensures c.in_err-give_up-in-Err.ensures.err));
   places = longer_outside _ _ _ _ _ _ _ (ap (λ k. k.regions.items) c.give_up.ensures.system) (same_vault g.V.Store.told c.args.core.now.vault c.give_up.new.core.vault (ap (λ k. k.vault) c.give_up.ensures.system)) (unsaid_outside _ _ (Err c.into.result) c.requires.stands c.in_err-give_up-in-Err.ensures.err);
   on = err_on c.from_residual-in_err-give_up-in-Err.result c.from_residual-in_err-give_up-in-Err.ensures.0;
-  any_moment = leaves_still g.V.Store.told g.V.Store.may_leave g.V.Store.faults g.V.Store.moment g.V.Store.left_since (IsCertifying c.args.checkpoint c.args.audit c.args.next) c.args.client.now c.args.core.now.regions.items c.args.core.now.system.state _ c.args.core.now.vault _ (λ d past. g.met.V.Store.only_now c.args.core.now.vault.store d past) (ap (λ k. k.vault) c.give_up.ensures.system);
+  any_moment = leaves_still g.V.Store (IsCertifying c.args.checkpoint c.args.audit c.args.next) c.args.client.now c.args.core.now.regions.items c.args.core.now.system.state _ c.args.core.now.vault _ (λ d past. g.met.V.Store.only_now c.args.core.now.vault.store d past) (ap (λ k. k.vault) c.give_up.ensures.system);
   refuses = λ cause up. on_no_ok _ c.from_residual-in_err-give_up-in-Err.result c.from_residual-in_err-give_up-in-Err.ensures.0;
 }
 
 pub returns-in_ok-give_up-in-Err : goal.returns-in_ok-give_up-in-Err
 returns-in_ok-give_up-in-Err g c = record {
   goes = λ precheck.
-      so_left g.V.Store.told g.V.Store.may_leave g.V.Store.faults precheck (IsCertifying c.args.checkpoint c.args.audit c.args.next) c.args.client.now c.give_up.new.client c.args.core.now.regions.items c.args.core.now.system.state c.args.core.now.vault _ _ _ _ _ _ _ (ap (λ k. k.regions.items) c.give_up.ensures.system) (ap (λ k. k.system.state) c.give_up.ensures.system) (ap (λ k. k.vault) c.give_up.ensures.system)
-      (unended_goes g.V.Store.told g.V.Store.may_leave g.V.Store.faults precheck c.args.client.now c.give_up.new.client c.args.core.now.regions.items c.args.core.now.system.state c.args.core.now.vault c.args.checkpoint c.args.audit c.args.next c.end.result c.in-Err.error c.end.new.system.state _ c.in-Err.is
+      so_left g.V.Store precheck (IsCertifying c.args.checkpoint c.args.audit c.args.next) c.args.client.now c.give_up.new.client c.args.core.now.regions.items c.args.core.now.system.state c.args.core.now.vault _ _ _ _ _ _ _ (ap (λ k. k.regions.items) c.give_up.ensures.system) (ap (λ k. k.system.state) c.give_up.ensures.system) (ap (λ k. k.vault) c.give_up.ensures.system)
+      (unended_goes g.V.Store precheck c.args.client.now c.give_up.new.client c.args.core.now.regions.items c.args.core.now.system.state c.args.core.now.vault c.args.checkpoint c.args.audit c.args.next c.end.result c.in-Err.error c.end.new.system.state _ c.in-Err.is
       (λ e. c.end.ensures.memory (ap stop_of e)) c.end.ensures.refused (ap (λ (x : Served). x.state) c.in-Err.ensures.err) refl
       (subst (λ (e : CheckpointError). SaysEnd c.args.client.now (Err e) c.give_up.new.client) c.into.ensures c.in_ok-give_up-in-Err.ensures.ok));
   places = longer_outside _ _ _ _ _ _ _ (ap (λ k. k.regions.items) c.give_up.ensures.system) (same_vault g.V.Store.told c.args.core.now.vault c.give_up.new.core.vault (ap (λ k. k.vault) c.give_up.ensures.system)) (ends_outside _ _ (Err c.into.result) c.in_ok-give_up-in-Err.ensures.ok);
   on = refl;
-  any_moment = leaves_still g.V.Store.told g.V.Store.may_leave g.V.Store.faults g.V.Store.moment g.V.Store.left_since (IsCertifying c.args.checkpoint c.args.audit c.args.next) c.args.client.now c.args.core.now.regions.items c.args.core.now.system.state _ c.args.core.now.vault _ (λ d past. g.met.V.Store.only_now c.args.core.now.vault.store d past) (ap (λ k. k.vault) c.give_up.ensures.system);
+  any_moment = leaves_still g.V.Store (IsCertifying c.args.checkpoint c.args.audit c.args.next) c.args.client.now c.args.core.now.regions.items c.args.core.now.system.state _ c.args.core.now.vault _ (λ d past. g.met.V.Store.only_now c.args.core.now.vault.store d past) (ap (λ k. k.vault) c.give_up.ensures.system);
   refuses = unended c.args.core.now.system.state c.args.client.now c.give_up.new.client c.in-Err.error c.into.result c.into.ensures (asked_says c.args.core.now.system.state c.end.result c.in-Err.error c.in-Err.is c.end.ensures.refused c.end.ensures.memory) c.in_ok-give_up-in-Err.ensures.ok;
 }
 
 pub returns-then-not-has_passed_all : goal.returns-then-not-has_passed_all
 returns-then-not-has_passed_all g c = record {
   goes = λ precheck.
-      never_goes g.V.Store.told g.V.Store.may_leave g.V.Store.faults precheck (IsCertifying c.args.checkpoint c.args.audit c.args.next) c.args.client.now c.args.core.now.regions.items c.args.core.now.system.state c.args.core.now.vault ((AllPassed c.args.audit.findings × (IsSomeAnd c.args.checkpoint.settled (λ n. n ≤ c.args.audit.begin))) × ((c.args.core.now.vault.end < 2 ^ 62) × (c.args.core.now.vault.current < 2 ^ 62))) _ _ _ _ _
-      (both g.V.Store.told g.V.Store.may_leave g.V.Store.faults precheck (IsCertifying c.args.checkpoint c.args.audit c.args.next) c.args.client.now c.args.core.now.regions.items c.args.core.now.system.state c.args.core.now.vault _ _ (both g.V.Store.told g.V.Store.may_leave g.V.Store.faults precheck (IsCertifying c.args.checkpoint c.args.audit c.args.next) c.args.client.now c.args.core.now.regions.items c.args.core.now.system.state c.args.core.now.vault _ _ (may_finish g.V.Store.told g.V.Store.may_leave g.V.Store.faults precheck c.args.client.now c.args.client.now c.args.core.now.regions.items c.args.core.now.system.state c.args.core.now.vault c.args.checkpoint c.args.audit c.args.next c.requires.all) (may_certify g.V.Store.told g.V.Store.may_leave g.V.Store.faults precheck c.args.client.now c.args.client.now c.args.core.now.regions.items c.args.core.now.system.state c.args.core.now.vault c.args.checkpoint c.args.audit c.args.next)) (vault_small g.V.Store.told g.V.Store.may_leave g.V.Store.faults precheck (IsCertifying c.args.checkpoint c.args.audit c.args.next) c.args.client.now c.args.core.now.regions.items c.args.core.now.system.state c.args.core.now.vault))
+      never_goes g.V.Store precheck (IsCertifying c.args.checkpoint c.args.audit c.args.next) c.args.client.now c.args.core.now.regions.items c.args.core.now.system.state c.args.core.now.vault ((AllPassed c.args.audit.findings × (IsSomeAnd c.args.checkpoint.settled (λ n. n ≤ c.args.audit.begin))) × ((c.args.core.now.vault.end < 2 ^ 62) × (c.args.core.now.vault.current < 2 ^ 62))) _ _ _ _ _
+      (both g.V.Store precheck (IsCertifying c.args.checkpoint c.args.audit c.args.next) c.args.client.now c.args.core.now.regions.items c.args.core.now.system.state c.args.core.now.vault _ _ (both g.V.Store precheck (IsCertifying c.args.checkpoint c.args.audit c.args.next) c.args.client.now c.args.core.now.regions.items c.args.core.now.system.state c.args.core.now.vault _ _ (may_finish g.V.Store precheck c.args.client.now c.args.client.now c.args.core.now.regions.items c.args.core.now.system.state c.args.core.now.vault c.args.checkpoint c.args.audit c.args.next c.requires.all) (may_certify g.V.Store precheck c.args.client.now c.args.client.now c.args.core.now.regions.items c.args.core.now.system.state c.args.core.now.vault c.args.checkpoint c.args.audit c.args.next)) (vault_small g.V.Store precheck (IsCertifying c.args.checkpoint c.args.audit c.args.next) c.args.client.now c.args.core.now.regions.items c.args.core.now.system.state c.args.core.now.vault))
       (λ h. elim c.then-not-has_passed_all.branch as (λ x. ⊥) [ then-not-has_passed_all-via-then-not-has_passed_all w ↦ let passed : c.has_passed_all.result ≡ true = c.has_passed_all.ensures.told h.0.0 in search rules | then-not-has_passed_all-via-else-not-has_passed_all+then-not-may_certify w ↦ let behind : w.may_certify.result ≡ true = w.may_certify.ensures.told h.0.1 in search rules | then-not-has_passed_all-via-else-not-has_passed_all+else-not-may_certify+then-not-has_room w ↦ let room : w.has_room.result ≡ true = w.has_room.ensures.told h.1 in search rules ]);
   places = still_outside _ _ _ _ _ c.requires.stands;
   on = err_on _ c.no_run.ensures;
-  any_moment = leaves_still g.V.Store.told g.V.Store.may_leave g.V.Store.faults g.V.Store.moment g.V.Store.left_since (IsCertifying c.args.checkpoint c.args.audit c.args.next) c.args.client.now c.args.core.now.regions.items c.args.core.now.system.state _ c.args.core.now.vault _ (λ d past. g.met.V.Store.only_now c.args.core.now.vault.store d past) refl;
+  any_moment = leaves_still g.V.Store (IsCertifying c.args.checkpoint c.args.audit c.args.next) c.args.client.now c.args.core.now.regions.items c.args.core.now.system.state _ c.args.core.now.vault _ (λ d past. g.met.V.Store.only_now c.args.core.now.vault.store d past) refl;
   refuses = λ cause up. on_no_ok _ _ c.no_run.ensures;
 }

@@ -13,7 +13,7 @@ use Rattle.dali_turns.proofs.steps.committing.settle_next.Goals as goal
 
 pub returns-then-is_some : goal.returns-then-is_some
 returns-then-is_some g c = record {
-  goes = λ precheck. ok_goes g.V.Store.told g.V.Store.may_leave g.V.Store.faults precheck c.args.transaction c.args.number c.args.removals.items c.args.next (IsCommitting c.args.transaction c.args.number c.args.removals c.args.next) (λ s B p w gs y v a rest f. f) (λ n e. e) (λ n e. e) c.args.client.now c.finish.new.self c.args.core.now.regions.items c.args.core.now.system.state c.args.core.now.vault c.requires.flushed (ap is_some (sym c.stopped.ensures) ∙ (sym c.is_some.ensures ∙ c.if-is_some.true)) c.in_ok-finish.ensures.ok;
+  goes = λ precheck. ok_goes g.V.Store precheck c.args.transaction c.args.number c.args.removals.items c.args.next (IsCommitting c.args.transaction c.args.number c.args.removals c.args.next) (λ s B p w gs y v a rest f. f) (λ n e. e) (λ n e. e) c.args.client.now c.finish.new.self c.args.core.now.regions.items c.args.core.now.system.state c.args.core.now.vault c.requires.flushed (ap is_some (sym c.stopped.ensures) ∙ (sym c.is_some.ensures ∙ c.if-is_some.true)) c.in_ok-finish.ensures.ok;
   places = still_outside _ _ _ _ _ c.in_ok-finish.ensures.ok.stands;
   on = refl;
   vault = refl;
@@ -23,8 +23,8 @@ returns-then-is_some g c = record {
 pub returns-in_err-finish : goal.returns-in_err-finish
 returns-in_err-finish g c = record {
   goes = λ precheck.
-      commit_unsaid_goes g.V.Store.told g.V.Store.may_leave g.V.Store.faults precheck c.args.transaction c.args.number c.args.removals.items c.args.next (IsCommitting c.args.transaction c.args.number c.args.removals c.args.next) (λ s B p w gs y v a rest f. f) (λ n e. e) (λ n e. e) c.args.client.now c.finish.new.self c.args.core.now.regions.items c.args.core.now.system.state c.args.core.now.vault _ _ _ _ (err_false c.from_residual.result c.from_residual.ensures.0)
-      (ok_silent_goes g.V.Store.told g.V.Store.may_leave g.V.Store.faults precheck c.args.transaction c.args.number c.args.removals.items c.args.next (IsCommitting c.args.transaction c.args.number c.args.removals c.args.next) (λ s B p w gs y v a rest f. f) (λ n e. e) (λ n e. e) c.args.client.now c.finish.new.self c.args.core.now.regions.items c.args.core.now.system.state c.args.core.now.vault c.requires.flushed c.in_err-finish.ensures.err.transcript);
+      commit_unsaid_goes g.V.Store precheck c.args.transaction c.args.number c.args.removals.items c.args.next (IsCommitting c.args.transaction c.args.number c.args.removals c.args.next) (λ s B p w gs y v a rest f. f) (λ n e. e) (λ n e. e) c.args.client.now c.finish.new.self c.args.core.now.regions.items c.args.core.now.system.state c.args.core.now.vault _ _ _ _ (err_false c.from_residual.result c.from_residual.ensures.0)
+      (ok_silent_goes g.V.Store precheck c.args.transaction c.args.number c.args.removals.items c.args.next (IsCommitting c.args.transaction c.args.number c.args.removals c.args.next) (λ s B p w gs y v a rest f. f) (λ n e. e) (λ n e. e) c.args.client.now c.finish.new.self c.args.core.now.regions.items c.args.core.now.system.state c.args.core.now.vault c.requires.flushed c.in_err-finish.ensures.err.transcript);
   places = still_outside _ _ _ _ _ c.in_err-finish.ensures.err.stands;
   on = err_on c.from_residual.result c.from_residual.ensures.0;
   vault = refl;
@@ -37,7 +37,7 @@ returns-in-Ok g c =
     let vault = ap (λ k. k.vault) c.end_commit.ensures.rest in
     record {
       goes = λ precheck.
-          ended_goes g.V.Store.told g.V.Store.may_leave g.V.Store.faults precheck c.args.transaction c.args.number c.args.removals.items c.args.next (IsCommitting c.args.transaction c.args.number c.args.removals c.args.next) (λ s B p w gs y v a rest f. f) (λ n e. e) (λ n e. e) c.args.client.now c.finish-in-Ok.new.self c.args.core.now.regions.items c.args.core.now.system.state c.args.core.now.vault c.requires.flushed (sym c.stopped.ensures ∙ none_of_test c.stopped.result (sym c.is_some.ensures ∙ c.if-is_some.false)) c.end_commit.new.core.regions.items c.end_commit.new.core.system.state c.end_commit.new.core.vault vault (others_ended _ _ _ _ c.args.transaction.txn regions c.in-Ok.ensures.state)
+          ended_goes g.V.Store precheck c.args.transaction c.args.number c.args.removals.items c.args.next (IsCommitting c.args.transaction c.args.number c.args.removals c.args.next) (λ s B p w gs y v a rest f. f) (λ n e. e) (λ n e. e) c.args.client.now c.finish-in-Ok.new.self c.args.core.now.regions.items c.args.core.now.system.state c.args.core.now.vault c.requires.flushed (sym c.stopped.ensures ∙ none_of_test c.stopped.result (sym c.is_some.ensures ∙ c.if-is_some.false)) c.end_commit.new.core.regions.items c.end_commit.new.core.system.state c.end_commit.new.core.vault vault (others_ended _ _ _ _ c.args.transaction.txn regions c.in-Ok.ensures.state)
           (ap (λ l. slice_get l c.args.next) (sym c.deref.ensures.value) ∙ (sym c.removal_at.ensures.is ∙ c.in-None.is)) c.in-Ok.ensures.ok (ended_row _ _ c.args.transaction.txn c.in-Ok.ensures.state) c.in_ok-finish-in-Ok.ensures.ok;
       places = places_still g.V.Store.told (IsCommitting c.args.transaction c.args.number c.args.removals c.args.next) _ c.args.core.now.regions.items c.end_commit.new.core.regions.items c.args.core.now.vault c.end_commit.new.core.vault regions vault (at_state g.V.Store.told _ _ _ _ _ c.in_ok-finish-in-Ok.ensures.ok.stands tt);
       on = refl;
@@ -51,8 +51,8 @@ returns-in_err-finish-in-Ok g c =
     let vault = ap (λ k. k.vault) c.end_commit.ensures.rest in
     record {
       goes = λ precheck.
-          commit_unsaid_goes g.V.Store.told g.V.Store.may_leave g.V.Store.faults precheck c.args.transaction c.args.number c.args.removals.items c.args.next (IsCommitting c.args.transaction c.args.number c.args.removals c.args.next) (λ s B p w gs y v a rest f. f) (λ n e. e) (λ n e. e) c.args.client.now c.finish-in-Ok.new.self c.args.core.now.regions.items c.args.core.now.system.state c.args.core.now.vault _ _ _ _ (err_false c.from_residual-in_err-finish-in-Ok.result c.from_residual-in_err-finish-in-Ok.ensures.0)
-          (ended_silent_goes g.V.Store.told g.V.Store.may_leave g.V.Store.faults precheck c.args.transaction c.args.number c.args.removals.items c.args.next (IsCommitting c.args.transaction c.args.number c.args.removals c.args.next) (λ s B p w gs y v a rest f. f) (λ n e. e) (λ n e. e) c.args.client.now c.finish-in-Ok.new.self c.args.core.now.regions.items c.args.core.now.system.state c.args.core.now.vault c.requires.flushed (sym c.stopped.ensures ∙ none_of_test c.stopped.result (sym c.is_some.ensures ∙ c.if-is_some.false)) c.end_commit.new.core.regions.items c.end_commit.new.core.system.state c.end_commit.new.core.vault vault (others_ended _ _ _ _ c.args.transaction.txn regions c.in-Ok.ensures.state)
+          commit_unsaid_goes g.V.Store precheck c.args.transaction c.args.number c.args.removals.items c.args.next (IsCommitting c.args.transaction c.args.number c.args.removals c.args.next) (λ s B p w gs y v a rest f. f) (λ n e. e) (λ n e. e) c.args.client.now c.finish-in-Ok.new.self c.args.core.now.regions.items c.args.core.now.system.state c.args.core.now.vault _ _ _ _ (err_false c.from_residual-in_err-finish-in-Ok.result c.from_residual-in_err-finish-in-Ok.ensures.0)
+          (ended_silent_goes g.V.Store precheck c.args.transaction c.args.number c.args.removals.items c.args.next (IsCommitting c.args.transaction c.args.number c.args.removals c.args.next) (λ s B p w gs y v a rest f. f) (λ n e. e) (λ n e. e) c.args.client.now c.finish-in-Ok.new.self c.args.core.now.regions.items c.args.core.now.system.state c.args.core.now.vault c.requires.flushed (sym c.stopped.ensures ∙ none_of_test c.stopped.result (sym c.is_some.ensures ∙ c.if-is_some.false)) c.end_commit.new.core.regions.items c.end_commit.new.core.system.state c.end_commit.new.core.vault vault (others_ended _ _ _ _ c.args.transaction.txn regions c.in-Ok.ensures.state)
           (ap (λ l. slice_get l c.args.next) (sym c.deref.ensures.value) ∙ (sym c.removal_at.ensures.is ∙ c.in-None.is)) c.in-Ok.ensures.ok (ended_row _ _ c.args.transaction.txn c.in-Ok.ensures.state) c.in_err-finish-in-Ok.ensures.err.transcript);
       places = places_still g.V.Store.told (IsCommitting c.args.transaction c.args.number c.args.removals c.args.next) _ c.args.core.now.regions.items c.end_commit.new.core.regions.items c.args.core.now.vault c.end_commit.new.core.vault regions vault (at_state g.V.Store.told _ _ _ _ _ c.in_err-finish-in-Ok.ensures.err.stands tt);
       on = err_on c.from_residual-in_err-finish-in-Ok.result c.from_residual-in_err-finish-in-Ok.ensures.0;
@@ -64,8 +64,8 @@ pub returns-in-None : goal.returns-in-None
 returns-in-None g c =
     let same = c.in-Err.ensures.err in
     record {
-      goes = λ precheck. commit_unsaid_goes g.V.Store.told g.V.Store.may_leave g.V.Store.faults precheck c.args.transaction c.args.number c.args.removals.items c.args.next (IsCommitting c.args.transaction c.args.number c.args.removals c.args.next) (λ s B p w gs y v a rest f. f) (λ n e. e) (λ n e. e) c.args.client.now c.args.client.now c.args.core.now.regions.items c.args.core.now.system.state c.args.core.now.vault _ _ _ _ (err_false c.no_run.result c.no_run.ensures)
-          (unended_goes g.V.Store.told g.V.Store.may_leave g.V.Store.faults precheck c.args.transaction c.args.number c.args.removals.items c.args.next (IsCommitting c.args.transaction c.args.number c.args.removals c.args.next) (λ s B p w gs y v a rest f. f) (λ n e. e) (λ n e. e) c.args.client.now c.args.client.now c.args.core.now.regions.items c.args.core.now.system.state c.args.core.now.vault c.requires.flushed c.end_commit.new.core.regions.items c.end_commit.new.core.system.state c.end_commit.new.core.vault (ap (λ k. k.regions.items) same) (ap (λ k. k.system.state) same) (ap (λ k. k.vault) same) refl);
+      goes = λ precheck. commit_unsaid_goes g.V.Store precheck c.args.transaction c.args.number c.args.removals.items c.args.next (IsCommitting c.args.transaction c.args.number c.args.removals c.args.next) (λ s B p w gs y v a rest f. f) (λ n e. e) (λ n e. e) c.args.client.now c.args.client.now c.args.core.now.regions.items c.args.core.now.system.state c.args.core.now.vault _ _ _ _ (err_false c.no_run.result c.no_run.ensures)
+          (unended_goes g.V.Store precheck c.args.transaction c.args.number c.args.removals.items c.args.next (IsCommitting c.args.transaction c.args.number c.args.removals c.args.next) (λ s B p w gs y v a rest f. f) (λ n e. e) (λ n e. e) c.args.client.now c.args.client.now c.args.core.now.regions.items c.args.core.now.system.state c.args.core.now.vault c.requires.flushed c.end_commit.new.core.regions.items c.end_commit.new.core.system.state c.end_commit.new.core.vault (ap (λ k. k.regions.items) same) (ap (λ k. k.system.state) same) (ap (λ k. k.vault) same) refl);
       places = places_still g.V.Store.told (IsCommitting c.args.transaction c.args.number c.args.removals c.args.next) _ c.args.core.now.regions.items c.end_commit.new.core.regions.items c.args.core.now.vault c.end_commit.new.core.vault (ap (λ k. k.regions.items) same) (ap (λ k. k.vault) same) (at_state g.V.Store.told _ _ _ _ _ c.requires.stands tt);
       on = search rules;
       vault = ap (λ k. k.vault) same;
@@ -75,7 +75,7 @@ returns-in-None g c =
 pub returns-in-Ok-free_removal : goal.returns-in-Ok-free_removal
 returns-in-Ok-free_removal g c = record {
   goes = λ precheck.
-      freed_goes g.V.Store.told g.V.Store.may_leave g.V.Store.faults precheck c.args.transaction c.args.number c.args.removals.items c.args.next (IsCommitting c.args.transaction c.args.number c.args.removals c.args.next) (λ s B p w gs y v a rest f. f) (λ n e. e) (λ n e. e) c.args.client.now _ c.args.core.now.regions.items c.args.core.now.system.state c.args.core.now.vault c.requires.flushed (sym c.stopped.ensures ∙ none_of_test c.stopped.result (sym c.is_some.ensures ∙ c.if-is_some.false)) c.free_removal.new.core.regions.items c.free_removal.new.core.system.state c.free_removal.new.core.vault c.free_removal.ensures.vault c.free_removal.ensures.others c.free_removal.ensures.still
+      freed_goes g.V.Store precheck c.args.transaction c.args.number c.args.removals.items c.args.next (IsCommitting c.args.transaction c.args.number c.args.removals c.args.next) (λ s B p w gs y v a rest f. f) (λ n e. e) (λ n e. e) c.args.client.now _ c.args.core.now.regions.items c.args.core.now.system.state c.args.core.now.vault c.requires.flushed (sym c.stopped.ensures ∙ none_of_test c.stopped.result (sym c.is_some.ensures ∙ c.if-is_some.false)) c.free_removal.new.core.regions.items c.free_removal.new.core.system.state c.free_removal.new.core.vault c.free_removal.ensures.vault c.free_removal.ensures.others c.free_removal.ensures.still
       c.in-Some.removal (ap (λ l. slice_get l c.args.next) (sym c.deref.ensures.value) ∙ (sym c.removal_at.ensures.is ∙ c.in-Some.is)) c.free_removal.ensures.locks c.in-Ok-free_removal.ensures.ok (IsCommitting c.args.transaction c.args.number c.args.removals (c.args.next + 1)) (record { rest = refl; stands = refl; points = refl; transcript = refl })
       (λ s B p w gs y v a rest f. f) (λ n e. e);
   places = places_beside g.V.Store.told (IsCommitting c.args.transaction c.args.number c.args.removals c.args.next) _ c.args.core.now.regions.items c.free_removal.new.core.regions.items c.args.core.now.vault c.free_removal.new.core.vault c.free_removal.ensures.flags c.free_removal.ensures.vault (λ e. absurd (omega (arith, e)));
@@ -87,8 +87,8 @@ returns-in-Ok-free_removal g c = record {
 pub returns : goal.returns
 returns g c = record {
   goes = λ precheck.
-      commit_unsaid_goes g.V.Store.told g.V.Store.may_leave g.V.Store.faults precheck c.args.transaction c.args.number c.args.removals.items c.args.next (IsCommitting c.args.transaction c.args.number c.args.removals c.args.next) (λ s B p w gs y v a rest f. f) (λ n e. e) (λ n e. e) c.args.client.now c.args.client.now c.args.core.now.regions.items c.args.core.now.system.state c.args.core.now.vault _ _ _ _ (err_false c.no_run-in-Err-free_removal.result c.no_run-in-Err-free_removal.ensures)
-      (unfreed_goes g.V.Store.told g.V.Store.may_leave g.V.Store.faults precheck c.args.transaction c.args.number c.args.removals.items c.args.next (IsCommitting c.args.transaction c.args.number c.args.removals c.args.next) (λ s B p w gs y v a rest f. f) (λ n e. e) (λ n e. e) c.args.client.now c.args.client.now c.args.core.now.regions.items c.args.core.now.system.state c.args.core.now.vault c.requires.flushed (sym c.stopped.ensures ∙ none_of_test c.stopped.result (sym c.is_some.ensures ∙ c.if-is_some.false)) c.free_removal.new.core.regions.items c.free_removal.new.core.system.state c.free_removal.new.core.vault c.free_removal.ensures.vault c.free_removal.ensures.others c.free_removal.ensures.still c.in-Err-free_removal.ensures.left refl);
+      commit_unsaid_goes g.V.Store precheck c.args.transaction c.args.number c.args.removals.items c.args.next (IsCommitting c.args.transaction c.args.number c.args.removals c.args.next) (λ s B p w gs y v a rest f. f) (λ n e. e) (λ n e. e) c.args.client.now c.args.client.now c.args.core.now.regions.items c.args.core.now.system.state c.args.core.now.vault _ _ _ _ (err_false c.no_run-in-Err-free_removal.result c.no_run-in-Err-free_removal.ensures)
+      (unfreed_goes g.V.Store precheck c.args.transaction c.args.number c.args.removals.items c.args.next (IsCommitting c.args.transaction c.args.number c.args.removals c.args.next) (λ s B p w gs y v a rest f. f) (λ n e. e) (λ n e. e) c.args.client.now c.args.client.now c.args.core.now.regions.items c.args.core.now.system.state c.args.core.now.vault c.requires.flushed (sym c.stopped.ensures ∙ none_of_test c.stopped.result (sym c.is_some.ensures ∙ c.if-is_some.false)) c.free_removal.new.core.regions.items c.free_removal.new.core.system.state c.free_removal.new.core.vault c.free_removal.ensures.vault c.free_removal.ensures.others c.free_removal.ensures.still c.in-Err-free_removal.ensures.left refl);
   places = places_beside g.V.Store.told (IsCommitting c.args.transaction c.args.number c.args.removals c.args.next) _ c.args.core.now.regions.items c.free_removal.new.core.regions.items c.args.core.now.vault c.free_removal.new.core.vault c.free_removal.ensures.flags c.free_removal.ensures.vault (at_state g.V.Store.told _ _ _ _ _ c.requires.stands tt);
   on = search rules;
   vault = c.free_removal.ensures.vault;

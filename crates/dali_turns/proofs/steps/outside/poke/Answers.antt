@@ -10,28 +10,28 @@ use Rattle.dali_turns.proofs.steps.outside.poke.Goals as goal
 
 pub returns-in_err-finish-in-Some-clause-goes : goal.returns-in_err-finish-in-Some-clause-goes
 returns-in_err-finish-in-Some-clause-goes g c = λ precheck.
-    silent_goes g.V.Store.told g.V.Store.may_leave g.V.Store.faults precheck c.args.core.now.regions.items _ c.args.core.now.system.state c.args.core.now.vault c.args.client.now c.finish.new.self _
+    silent_goes g.V.Store precheck c.args.core.now.regions.items _ c.args.core.now.system.state c.args.core.now.vault c.args.client.now c.finish.new.self _
     (err_false c.from_residual.result c.from_residual.ensures.0) (lent_same c.args.core.now.regions.items c.args.region c.in-Some.region.now c.in-Some.ensures.value) c.in_err-finish-in-Some.ensures.err
 
 pub returns-in_err-finish-in-None-clause-goes : goal.returns-in_err-finish-in-None-clause-goes
 returns-in_err-finish-in-None-clause-goes g c = λ precheck.
-    silent_goes g.V.Store.told g.V.Store.may_leave g.V.Store.faults precheck c.args.core.now.regions.items c.args.core.now.regions.items c.args.core.now.system.state c.args.core.now.vault c.args.client.now c.finish-in-None.new.self _
+    silent_goes g.V.Store precheck c.args.core.now.regions.items c.args.core.now.regions.items c.args.core.now.system.state c.args.core.now.vault c.args.client.now c.finish-in-None.new.self _
     (err_false c.from_residual-in_err-finish-in-None.result c.from_residual-in_err-finish-in-None.ensures.0) refl c.in_err-finish-in-None.ensures.err
 
 pub returns-in_ok-finish-in-Some-clause-goes : goal.returns-in_ok-finish-in-Some-clause-goes
 returns-in_ok-finish-in-Some-clause-goes g c = λ precheck.
-    pokes_region g.V.Store.told g.V.Store.may_leave g.V.Store.faults precheck c.args.core.now.regions.items c.args.core.now.system.state c.args.core.now.vault c.args.client.now c.finish.new.self c.args.region c.args.word c.args.mask
+    pokes_region g.V.Store precheck c.args.core.now.regions.items c.args.core.now.system.state c.args.core.now.vault c.args.client.now c.finish.new.self c.args.region c.args.word c.args.mask
     c.in-Some.region.now c.poke.new.self c.requires.next (lent_there c.args.core.now.regions.items c.args.region c.in-Some.region.now c.in-Some.ensures.item.3.0 c.in-Some.ensures.value) c.poke.ensures.after c.in_ok-finish-in-Some.ensures.ok
 
 pub returns-in_ok-finish-in-None-clause-goes : goal.returns-in_ok-finish-in-None-clause-goes
 returns-in_ok-finish-in-None-clause-goes g c = λ precheck.
-    pokes_none_goes g.V.Store.told g.V.Store.may_leave g.V.Store.faults precheck c.args.core.now.regions.items c.args.core.now.system.state c.args.core.now.vault c.args.client.now c.finish-in-None.new.self c.args.region c.args.word c.args.mask
+    pokes_none_goes g.V.Store precheck c.args.core.now.regions.items c.args.core.now.system.state c.args.core.now.vault c.args.client.now c.finish-in-None.new.self c.args.region c.args.word c.args.mask
     c.requires.next (slice_get_past c.args.core.now.regions.items c.args.region c.in-None.ensures.item.3) c.in_ok-finish-in-None.ensures.ok
 
 pub returns-then-not-is_stray-clause-goes : goal.returns-then-not-is_stray-clause-goes
 returns-then-not-is_stray-clause-goes g c = λ precheck.
-    in_no_run g.V.Store.told g.V.Store.may_leave g.V.Store.faults precheck c.args.client.now c.args.core.now.regions.items c.args.core.now.system.state c.args.core.now.vault _ c.args.client.now c.args.core.now.regions.items c.args.core.now.system.state c.args.core.now.vault Outside
-    (λ may. let stray : true ≡ false = sym (c.is_stray.ensures.told (pokes_may g.V.Store.told g.V.Store.may_leave g.V.Store.faults c.args.core.now.regions.items c.args.core.now.system.state c.args.core.now.vault c.args.client.now c.args.region c.args.word c.args.mask may c.requires.next)) ∙ c.if-not-is_stray.true in absurd (cc))
+    in_no_run g.V.Store precheck c.args.client.now c.args.core.now.regions.items c.args.core.now.system.state c.args.core.now.vault _ c.args.client.now c.args.core.now.regions.items c.args.core.now.system.state c.args.core.now.vault Outside
+    (λ may. let stray : true ≡ false = sym (c.is_stray.ensures.told (pokes_may g.V.Store c.args.core.now.regions.items c.args.core.now.system.state c.args.core.now.vault c.args.client.now c.args.region c.args.word c.args.mask may c.requires.next)) ∙ c.if-not-is_stray.true in absurd (cc))
 
 pub returns-then-not-is_stray-clause-places : goal.returns-then-not-is_stray-clause-places
 returns-then-not-is_stray-clause-places g c = places_still g.V.Store.told Outside c.args.client.now.state c.args.core.now.regions.items c.args.core.now.regions.items c.args.core.now.vault c.args.core.now.vault refl refl (at_state g.V.Store.told _ _ c.args.client.now.state Outside c.args.core.now.vault c.requires.stands tt)

@@ -17,8 +17,8 @@ begin-requires-then-is_some-clause-next g c = c.begins_next.ensures.begins c.if-
 
 pub returns-then-not-begins_next-clause-goes : goal.returns-then-not-begins_next-clause-goes
 returns-then-not-begins_next-clause-goes g c = λ precheck.
-    in_no_run g.V.Store.told g.V.Store.may_leave g.V.Store.faults precheck c.args.client.now c.args.core.now.regions.items c.args.core.now.system.state c.args.core.now.vault _ c.args.client.now c.args.core.now.regions.items c.args.core.now.system.state c.args.core.now.vault (Waiting c.args.tries c.args.holder)
-    (λ may. let there : true ≡ false = sym (c.begins_next.ensures.told (waits_begin g.V.Store.told g.V.Store.may_leave g.V.Store.faults c.args.core.now.regions.items c.args.core.now.system.state c.args.core.now.vault c.args.client.now c.args.tries c.args.holder may)) ∙ c.if-not-begins_next.true in absurd (cc))
+    in_no_run g.V.Store precheck c.args.client.now c.args.core.now.regions.items c.args.core.now.system.state c.args.core.now.vault _ c.args.client.now c.args.core.now.regions.items c.args.core.now.system.state c.args.core.now.vault (Waiting c.args.tries c.args.holder)
+    (λ may. let there : true ≡ false = sym (c.begins_next.ensures.told (waits_begin g.V.Store c.args.core.now.regions.items c.args.core.now.system.state c.args.core.now.vault c.args.client.now c.args.tries c.args.holder may)) ∙ c.if-not-begins_next.true in absurd (cc))
 
 pub returns-then-has_gone-clause-goes : goal.returns-then-has_gone-clause-goes
 returns-then-has_gone-clause-goes g c = λ precheck. c.begin.ensures.goes precheck (Waiting c.args.tries c.args.holder) (refl, inl (c.has_gone.ensures.is c.if-has_gone.true))
@@ -30,7 +30,7 @@ returns-then-is_some-clause-goes g c =
 
 pub returns-clause-goes : goal.returns-clause-goes
 returns-clause-goes g c = λ precheck.
-    waits_goes g.V.Store.told g.V.Store.may_leave g.V.Store.faults precheck c.args.core.now.regions.items c.args.core.now.system.state c.args.core.now.vault c.args.client.now _ c.args.tries c.args.holder
+    waits_goes g.V.Store precheck c.args.core.now.regions.items c.args.core.now.system.state c.args.core.now.vault c.args.client.now _ c.args.tries c.args.holder
     (record { rest = refl; stands = refl; points = refl; transcript = refl })
 
 pub returns-then-has_gone-clause-places : goal.returns-then-has_gone-clause-places

@@ -1,5 +1,5 @@
 use Rattle.std.proofs.Common.{◌≡◌, length, map}
-use Rattle.dali_clients.specs.Told.{act_of}
+use Rattle.dali_transcripts.specs.Clients.Told.{act_of}
 use Rattle.dali_transcripts.specs.Moves.{behind_close as acts_behind}
 use Rattle.dali_turns.proofs.steps.transactions.behind_close.Given as goal
 

@@ -1,6 +1,6 @@
 use Rattle.std.proofs.Common.{OnOk, refl, subst}
 use Rattle.std.proofs.lemmas.Result.{on_ok_weaker}
-use Rattle.dali_clients.specs.declared.line.Line.{Line}
+use Rattle.dali_transcripts.specs.declared.clients.line.Line.{Line}
 use Rattle.dali_turns.specs.declared.client.State.TheVariants.{Outside, Within}
 use Rattle.dali_turns.specs.Clients.{Finishes}
 use Rattle.dali_turns.proofs.Commands.{err_false, unsaid_goes}
@@ -12,12 +12,12 @@ use Rattle.dali_turns.proofs.steps.transactions.end.Goals as goal
 
 pub returns-in_err-left-clause-goes : goal.returns-in_err-left-clause-goes
 returns-in_err-left-clause-goes g c = λ precheck.
-    unsaid_goes g.V.Store.told g.V.Store.may_leave g.V.Store.faults precheck (Within c.args.transaction) c.args.client.now c.args.client.now c.args.core.now.regions.items c.take_back.new.core.regions.items c.args.core.now.system.state c.take_back.new.core.system.state c.args.core.now.vault c.take_back.new.core.vault _ (err_false c.from_residual.result c.from_residual.ensures.0)
-    (end_half_goes g.V.Store.told g.V.Store.may_leave g.V.Store.faults precheck c.args.transaction c.args.client.now c.args.client.now c.args.core.now.regions.items c.args.core.now.system.state c.args.core.now.vault c.take_back.new.core.regions.items c.take_back.new.core.system.state c.take_back.new.core.vault c.take_back.ensures.vault c.requires.next c.in_err-left.ensures.half.1 refl)
+    unsaid_goes g.V.Store precheck (Within c.args.transaction) c.args.client.now c.args.client.now c.args.core.now.regions.items c.take_back.new.core.regions.items c.args.core.now.system.state c.take_back.new.core.system.state c.args.core.now.vault c.take_back.new.core.vault _ (err_false c.from_residual.result c.from_residual.ensures.0)
+    (end_half_goes g.V.Store precheck c.args.transaction c.args.client.now c.args.client.now c.args.core.now.regions.items c.args.core.now.system.state c.args.core.now.vault c.take_back.new.core.regions.items c.take_back.new.core.system.state c.take_back.new.core.vault c.take_back.ensures.vault c.requires.next c.in_err-left.ensures.half.1 refl)
 
 pub returns-clause-goes : goal.returns-clause-goes
 returns-clause-goes g c = λ precheck.
-    end_closes g.V.Store.told g.V.Store.may_leave g.V.Store.faults precheck c.args.transaction c.args.client.now c.close.new.client c.args.core.now.regions.items c.args.core.now.system.state c.args.core.now.vault c.take_back.new.core.regions.items c.take_back.new.core.system.state c.take_back.new.core.vault c.take_back.ensures.vault c.requires.next c.in_ok-left.ensures.away
+    end_closes g.V.Store precheck c.args.transaction c.args.client.now c.close.new.client c.args.core.now.regions.items c.args.core.now.system.state c.args.core.now.vault c.take_back.new.core.regions.items c.take_back.new.core.system.state c.take_back.new.core.vault c.take_back.ensures.vault c.requires.next c.in_ok-left.ensures.away
     (stays_by c.take_back.new.core c.args.core.now (λ k. k.regions.items) (λ k. k.system.state) c.args.core.now.system.state.stop c.take_back.ensures.stopped) c.in_ok-left.left c.in_ok-left.ensures.known c.close.result
     (subst (λ (l : Line). OnOk c.close.result (Finishes c.args.client.now Outside l c.close.new.client)) c.end_line.ensures c.close.ensures.ok) c.close.ensures.err
 

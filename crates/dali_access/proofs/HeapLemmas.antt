@@ -1,0 +1,4 @@
+pub mod Dependence
+pub mod CellLaws
+pub mod Orders
+pub mod Walk

@@ -1,0 +1,5 @@
+use Rattle.dali_access.proofs.IndexLemmas.Dependence.{free_by_reads}
+use Rattle.dali_access.proofs.index.free.Goals as goal
+
+pub returns-clause-by_reads : goal.returns-clause-by_reads
+returns-clause-by_reads c = free_by_reads c.args.entry c.args.words.now

@@ -1,0 +1,5 @@
+use Rattle.dali_access.proofs.IndexLemmas.Steps.{free_entry_keeps}
+use Rattle.dali_access.proofs.index.laws.a_freed_entry_keeps_the_index.Goals as goal
+
+pub returns : goal.returns
+returns c = free_entry_keeps

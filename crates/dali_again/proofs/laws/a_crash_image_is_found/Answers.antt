@@ -1,5 +1,0 @@
-use Rattle.dali_again.proofs.Found.{crash_is_found}
-use Rattle.dali_again.proofs.laws.a_crash_image_is_found.Goals as goal
-
-pub returns : goal.returns
-returns c = crash_is_found

@@ -1,5 +1,0 @@
-use Rattle.dali_again.proofs.Stages.{written}
-use Rattle.dali_again.proofs.laws.a_write_in_a_restart_leaves_its_stage.Goals as goal
-
-pub returns : goal.returns
-returns g c = λ v w. written (g.V.Store.may_leave v) (g.V.Store.may_leave w)

@@ -1,5 +1,0 @@
-use Rattle.dali_again.proofs.Telling.{tells_stage}
-use Rattle.dali_again.proofs.laws.what_stands_behind_an_image_tells_the_stage.Goals as goal
-
-pub returns : goal.returns
-returns c = tells_stage

@@ -1,5 +1,0 @@
-use Rattle.dali_batch.proofs.Walks.{readings}
-use Rattle.dali_batch.proofs.laws.bytes_have_one_reading.Goals as goal
-
-pub returns : goal.returns
-returns c = readings

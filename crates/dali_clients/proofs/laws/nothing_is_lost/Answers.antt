@@ -1,5 +1,0 @@
-use Rattle.dali_clients.proofs.Inverses.{each_is_told}
-use Rattle.dali_clients.proofs.laws.nothing_is_lost.Goals as goal
-
-pub returns : goal.returns
-returns c = record { told = each_is_told }

@@ -1,4 +1,0 @@
-use Rattle.dali_core.proofs.journal.Journal.push_from.Goals as goal
-
-pub returns-clause-promised : goal.returns-clause-promised
-returns-clause-promised c fits has = c.add.ensures.enough (fits, has)

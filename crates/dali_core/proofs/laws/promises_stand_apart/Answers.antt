@@ -1,8 +1,0 @@
-use Rattle.dali_core.proofs.Totals.{own_changes, others_stay}
-use Rattle.dali_core.proofs.laws.promises_stand_apart.Goals as goal
-
-pub returns-clause-own : goal.returns-clause-own
-returns-clause-own c = own_changes
-
-pub returns-clause-others : goal.returns-clause-others
-returns-clause-others c = others_stay

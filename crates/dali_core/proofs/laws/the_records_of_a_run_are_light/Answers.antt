@@ -1,5 +1,0 @@
-use Rattle.dali_core.proofs.Lights.{records_are_light}
-use Rattle.dali_core.proofs.laws.the_records_of_a_run_are_light.Goals as goal
-
-pub returns : goal.returns
-returns c = records_are_light

@@ -1,5 +1,0 @@
-use Rattle.dali_courses.proofs.Making.{own_steps_make, answer_makes, abort_makes, settling_makes}
-use Rattle.dali_courses.proofs.laws.a_thread_alone_makes_a_course.Goals as goal
-
-pub returns : goal.returns
-returns c = record { steps = own_steps_make; answer = answer_makes; abort = abort_makes; settling = settling_makes }

@@ -1,0 +1,10 @@
+pub mod Growth
+pub mod Bridges
+pub mod Once
+pub mod Places
+pub mod Images
+pub mod Ordered
+pub mod Heads
+pub mod Ends
+pub mod Changes
+pub mod NewFiles

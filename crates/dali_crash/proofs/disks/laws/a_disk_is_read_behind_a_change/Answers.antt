@@ -1,0 +1,11 @@
+use Rattle.dali_crash.proofs.DisksLemmas.Changes.{spells_beside, spells_longer, spells_turned}
+use Rattle.dali_crash.proofs.disks.laws.a_disk_is_read_behind_a_change.Goals as goal
+
+pub returns-clause-other : goal.returns-clause-other
+returns-clause-other c = spells_beside
+
+pub returns-clause-log : goal.returns-clause-log
+returns-clause-log c = spells_longer
+
+pub returns-clause-anchor : goal.returns-clause-anchor
+returns-clause-anchor c = spells_turned

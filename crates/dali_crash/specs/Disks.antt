@@ -1,0 +1,10 @@
+pub mod Growth
+pub mod Disks
+pub mod Places
+pub mod Bridges
+pub mod Images
+pub mod Ordered
+pub mod Heads
+pub mod Ends
+pub mod Changes
+pub mod NewFiles

@@ -1,5 +1,0 @@
-use Rattle.dali_examples.proofs.Rows.{undone_change-deleted, undone_change-expected, undone_change-recovered}
-use Rattle.dali_examples.proofs.laws.a_clean_change_is_undone.Goals as goal
-
-pub returns : goal.returns
-returns c = record { deleted = undone_change-deleted; expected = undone_change-expected; recovered = undone_change-recovered }

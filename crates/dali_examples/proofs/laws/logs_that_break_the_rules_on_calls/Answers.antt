@@ -1,5 +1,0 @@
-use Rattle.dali_examples.proofs.Rows.{wrong_answer-refused, no_look-refused, change_stands-refused}
-use Rattle.dali_examples.proofs.laws.logs_that_break_the_rules_on_calls.Goals as goal
-
-pub returns : goal.returns
-returns c = record { wrong_answer = wrong_answer-refused; no_look = no_look-refused; change_stands = change_stands-refused }

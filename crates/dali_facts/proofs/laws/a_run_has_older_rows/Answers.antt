@@ -1,5 +1,0 @@
-use Rattle.dali_facts.proofs.OlderRows.{rows_are_older}
-use Rattle.dali_facts.proofs.laws.a_run_has_older_rows.Goals as goal
-
-pub returns : goal.returns
-returns c = rows_are_older

@@ -1,5 +1,0 @@
-use Rattle.dali_facts.proofs.Plans.{take_back_goes_on}
-use Rattle.dali_facts.proofs.laws.a_taking_back_goes_on.Goals as goal
-
-pub returns : goal.returns
-returns c = take_back_goes_on

@@ -1,8 +1,0 @@
-use Rattle.dali_facts.proofs.Ends.{begin_follows, next_is_unbegun}
-use Rattle.dali_facts.proofs.laws.a_transaction_begins.Goals as goal
-
-pub returns-clause-follows : goal.returns-clause-follows
-returns-clause-follows c = begin_follows
-
-pub returns-clause-next : goal.returns-clause-next
-returns-clause-next c = next_is_unbegun

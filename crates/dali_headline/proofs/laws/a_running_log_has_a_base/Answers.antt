@@ -1,5 +1,0 @@
-use Rattle.dali_headline.proofs.Running.{front_of, running_base_holds}
-use Rattle.dali_headline.proofs.laws.a_running_log_has_a_base.Goals as goal
-
-pub returns : goal.returns
-returns c = record { front = front_of; holds = running_base_holds }

@@ -1,5 +1,0 @@
-use Rattle.dali_headline.proofs.KeptEpochs.{history_is_kept}
-use Rattle.dali_headline.proofs.laws.kept_as_the_law_asks.Goals as goal
-
-pub returns : goal.returns
-returns c = history_is_kept

@@ -1,5 +1,0 @@
-use Rattle.dali_headline.proofs.EpochByEpoch.{recovered_holds}
-use Rattle.dali_headline.proofs.laws.what_is_recovered_holds_what_is_expected.Goals as goal
-
-pub returns : goal.returns
-returns c = recovered_holds

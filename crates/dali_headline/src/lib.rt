@@ -1,4 +1,0 @@
-//! What every restart promises, over lists of records.
-#![tactic(auto)]
-
-pub mod laws;

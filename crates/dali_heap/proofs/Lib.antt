@@ -1,4 +1,0 @@
-pub mod Dependence
-pub mod CellLaws
-pub mod Orders
-mod Walk

@@ -1,5 +1,0 @@
-use Rattle.dali_heap.proofs.CellLaws.{put_takes_first}
-use Rattle.dali_heap.proofs.laws.a_put_takes_the_first_free_cell.Goals as goal
-
-pub returns : goal.returns
-returns c = put_takes_first

@@ -1,5 +1,0 @@
-use Rattle.dali_index.proofs.Dependence.{free_by_reads}
-use Rattle.dali_index.proofs.free.Goals as goal
-
-pub returns-clause-by_reads : goal.returns-clause-by_reads
-returns-clause-by_reads c = free_by_reads c.args.entry c.args.words.now

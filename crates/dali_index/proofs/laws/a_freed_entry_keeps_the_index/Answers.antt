@@ -1,5 +1,0 @@
-use Rattle.dali_index.proofs.Steps.{free_entry_keeps}
-use Rattle.dali_index.proofs.laws.a_freed_entry_keeps_the_index.Goals as goal
-
-pub returns : goal.returns
-returns c = free_entry_keeps

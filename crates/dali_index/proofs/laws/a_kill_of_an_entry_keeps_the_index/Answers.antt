@@ -1,5 +1,0 @@
-use Rattle.dali_index.proofs.Steps.{kill_entry_keeps}
-use Rattle.dali_index.proofs.laws.a_kill_of_an_entry_keeps_the_index.Goals as goal
-
-pub returns : goal.returns
-returns c = kill_entry_keeps

@@ -1,5 +1,0 @@
-use Rattle.dali_index.proofs.Orders.{look_after_add}
-use Rattle.dali_index.proofs.laws.a_look_after_an_add.Goals as goal
-
-pub returns : goal.returns
-returns c = look_after_add

@@ -1,5 +1,0 @@
-use Rattle.dali_index.proofs.Orders.{look_commutes}
-use Rattle.dali_index.proofs.laws.a_look_commutes_with_other_entries.Goals as goal
-
-pub returns : goal.returns
-returns c = look_commutes

@@ -1,5 +1,0 @@
-use Rattle.dali_index.proofs.EntryLaws.{look_finds_first}
-use Rattle.dali_index.proofs.laws.a_look_finds_the_first_entry.Goals as goal
-
-pub returns : goal.returns
-returns c = look_finds_first

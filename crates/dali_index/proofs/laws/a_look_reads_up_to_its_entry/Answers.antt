@@ -1,5 +1,0 @@
-use Rattle.dali_index.proofs.Orders.{look_reads}
-use Rattle.dali_index.proofs.laws.a_look_reads_up_to_its_entry.Goals as goal
-
-pub returns : goal.returns
-returns c = look_reads

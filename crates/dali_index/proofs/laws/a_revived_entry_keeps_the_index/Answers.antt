@@ -1,5 +1,0 @@
-use Rattle.dali_index.proofs.Steps.{revive_entry_keeps}
-use Rattle.dali_index.proofs.laws.a_revived_entry_keeps_the_index.Goals as goal
-
-pub returns : goal.returns
-returns c = revive_entry_keeps

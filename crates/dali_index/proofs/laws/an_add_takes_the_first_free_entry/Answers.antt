@@ -1,5 +1,0 @@
-use Rattle.dali_index.proofs.EntryLaws.{add_takes_first}
-use Rattle.dali_index.proofs.laws.an_add_takes_the_first_free_entry.Goals as goal
-
-pub returns : goal.returns
-returns c = add_takes_first

@@ -1,5 +1,0 @@
-use Rattle.dali_index.proofs.Forms.{formatted_is_empty}
-use Rattle.dali_index.proofs.laws.the_formatted_image_is_empty.Goals as goal
-
-pub returns : goal.returns
-returns c = formatted_is_empty

@@ -1,4 +1,0 @@
-//! The law of kept records.
-#![tactic(auto)]
-
-pub mod laws;

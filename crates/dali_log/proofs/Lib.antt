@@ -1,0 +1,14 @@
+pub mod Bytes
+pub mod Torn
+pub mod Crash
+pub mod Frames
+pub mod Finds
+pub mod Formats
+pub mod Bodies
+pub mod Fronts
+pub mod Readings
+pub mod Rows
+pub mod Unique
+pub mod Walks
+pub mod Streaming
+pub mod Anchors

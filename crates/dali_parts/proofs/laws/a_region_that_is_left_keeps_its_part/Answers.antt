@@ -1,5 +1,0 @@
-use Rattle.dali_parts.proofs.Regions.{region_misses}
-use Rattle.dali_parts.proofs.laws.a_region_that_is_left_keeps_its_part.Goals as goal
-
-pub returns : goal.returns
-returns c = region_misses

@@ -1,5 +1,0 @@
-use Rattle.dali_parts.proofs.Regions.{step_has_region}
-use Rattle.dali_parts.proofs.laws.a_step_has_its_region.Goals as goal
-
-pub returns : goal.returns
-returns c = step_has_region

@@ -1,5 +1,0 @@
-use Rattle.dali_parts.proofs.Systems.{step_has_system}
-use Rattle.dali_parts.proofs.laws.a_step_has_its_system.Goals as goal
-
-pub returns : goal.returns
-returns c = step_has_system

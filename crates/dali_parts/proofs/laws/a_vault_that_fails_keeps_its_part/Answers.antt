@@ -1,5 +1,0 @@
-use Rattle.dali_parts.proofs.Vaults.{vault_faults, bare_vault_faults}
-use Rattle.dali_parts.proofs.laws.a_vault_that_fails_keeps_its_part.Goals as goal
-
-pub returns : goal.returns
-returns c = record { each = vault_faults; bare = bare_vault_faults }

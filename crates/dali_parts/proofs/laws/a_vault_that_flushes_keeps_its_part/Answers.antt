@@ -1,5 +1,0 @@
-use Rattle.dali_parts.proofs.Vaults.{vault_flushes, bare_vault_flushes}
-use Rattle.dali_parts.proofs.laws.a_vault_that_flushes_keeps_its_part.Goals as goal
-
-pub returns : goal.returns
-returns c = record { each = vault_flushes; bare = bare_vault_flushes }

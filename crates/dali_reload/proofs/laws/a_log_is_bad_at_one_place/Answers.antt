@@ -1,5 +1,0 @@
-use Rattle.dali_reload.proofs.OnePlace.{one_bad_place}
-use Rattle.dali_reload.proofs.laws.a_log_is_bad_at_one_place.Goals as goal
-
-pub returns : goal.returns
-returns c = one_bad_place

@@ -1,5 +1,0 @@
-use Rattle.dali_reload.proofs.Passes.{finds_later}
-use Rattle.dali_reload.proofs.laws.each_pass_finds_a_later_epoch.Goals as goal
-
-pub returns : goal.returns
-returns c = finds_later

@@ -1,5 +1,0 @@
-use Rattle.dali_rise.proofs.Behind.{rests_behind}
-use Rattle.dali_rise.proofs.laws.a_renewed_log_is_at_rest.Goals as goal
-
-pub returns : goal.returns
-returns c = rests_behind

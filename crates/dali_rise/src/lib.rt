@@ -1,8 +1,0 @@
-//! A core is made over a store whose log is at rest, as a restart leaves it.
-#![tactic(auto)]
-
-pub mod laws;
-mod regions;
-mod rising;
-
-pub use rising::{Refused, Resting, rise};

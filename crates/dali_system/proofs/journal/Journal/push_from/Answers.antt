@@ -1,0 +1,4 @@
+use Rattle.dali_system.proofs.journal.Journal.push_from.Goals as goal
+
+pub returns-clause-promised : goal.returns-clause-promised
+returns-clause-promised c fits has = c.add.ensures.enough (fits, has)

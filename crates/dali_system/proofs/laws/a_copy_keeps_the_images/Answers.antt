@@ -1,5 +1,0 @@
-use Rattle.dali_system.proofs.ImageSteps.{copy_keeps}
-use Rattle.dali_system.proofs.laws.a_copy_keeps_the_images.Goals as goal
-
-pub returns : goal.returns
-returns c = copy_keeps

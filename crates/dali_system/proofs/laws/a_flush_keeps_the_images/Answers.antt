@@ -1,5 +1,0 @@
-use Rattle.dali_system.proofs.FlushedImages.{flush_keeps_images}
-use Rattle.dali_system.proofs.laws.a_flush_keeps_the_images.Goals as goal
-
-pub returns : goal.returns
-returns c = flush_keeps_images

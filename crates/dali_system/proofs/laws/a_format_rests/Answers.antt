@@ -1,5 +1,0 @@
-use Rattle.dali_system.proofs.Loads.{format_rests}
-use Rattle.dali_system.proofs.laws.a_format_rests.Goals as goal
-
-pub returns : goal.returns
-returns c = format_rests

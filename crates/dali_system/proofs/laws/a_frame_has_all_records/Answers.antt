@@ -1,5 +1,0 @@
-use Rattle.dali_system.proofs.Courses.{taken_all_is_flushed}
-use Rattle.dali_system.proofs.laws.a_frame_has_all_records.Goals as goal
-
-pub returns : goal.returns
-returns c = taken_all_is_flushed

@@ -1,5 +1,0 @@
-use Rattle.dali_system.proofs.WholeSteps.{load_is_whole}
-use Rattle.dali_system.proofs.laws.a_load_is_whole.Goals as goal
-
-pub returns : goal.returns
-returns c = load_is_whole

@@ -1,5 +1,0 @@
-use Rattle.dali_system.proofs.Flushes.{end_is_small}
-use Rattle.dali_system.proofs.laws.a_log_ends_below_its_limit.Goals as goal
-
-pub returns : goal.returns
-returns c = end_is_small

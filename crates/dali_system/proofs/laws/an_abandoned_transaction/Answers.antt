@@ -1,5 +1,0 @@
-use Rattle.dali_system.proofs.Abandoned.{was_abandoned}
-use Rattle.dali_system.proofs.laws.an_abandoned_transaction.Goals as goal
-
-pub returns : goal.returns
-returns c = was_abandoned

@@ -1,5 +1,0 @@
-use Rattle.dali_system.proofs.OpenAudits.{audit_goes_on}
-use Rattle.dali_system.proofs.laws.an_audit_goes_on.Goals as goal
-
-pub returns : goal.returns
-returns c = audit_goes_on

@@ -1,5 +1,0 @@
-use Rattle.dali_system.proofs.OpenAudits.{audit_starts}
-use Rattle.dali_system.proofs.laws.an_audit_starts.Goals as goal
-
-pub returns : goal.returns
-returns c = audit_starts

@@ -1,5 +1,0 @@
-use Rattle.dali_system.proofs.Courses.{audit_end_tells}
-use Rattle.dali_system.proofs.laws.an_audit_tells_what_it_passed.Goals as goal
-
-pub returns : goal.returns
-returns c = audit_end_tells

@@ -1,5 +1,0 @@
-use Rattle.dali_system.proofs.AuditSteps.{audit_end_keeps}
-use Rattle.dali_system.proofs.laws.audit_end_keeps_a_run.Goals as goal
-
-pub returns : goal.returns
-returns c = audit_end_keeps

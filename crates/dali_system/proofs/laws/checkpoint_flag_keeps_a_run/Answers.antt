@@ -1,5 +1,0 @@
-use Rattle.dali_system.proofs.QuietSteps.{checkpoint_flag_keeps}
-use Rattle.dali_system.proofs.laws.checkpoint_flag_keeps_a_run.Goals as goal
-
-pub returns : goal.returns
-returns c = checkpoint_flag_keeps

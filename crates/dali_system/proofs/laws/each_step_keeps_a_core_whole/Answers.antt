@@ -1,5 +1,0 @@
-use Rattle.dali_system.proofs.WholeSteps.{whole_keeps}
-use Rattle.dali_system.proofs.laws.each_step_keeps_a_core_whole.Goals as goal
-
-pub returns : goal.returns
-returns c = whole_keeps

@@ -1,5 +1,0 @@
-use Rattle.dali_system.proofs.Courses.{step_keeps}
-use Rattle.dali_system.proofs.laws.each_step_keeps_a_run.Goals as goal
-
-pub returns : goal.returns
-returns c = step_keeps

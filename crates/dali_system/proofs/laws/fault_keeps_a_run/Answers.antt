@@ -1,5 +1,0 @@
-use Rattle.dali_system.proofs.Flushes.{fault_keeps}
-use Rattle.dali_system.proofs.laws.fault_keeps_a_run.Goals as goal
-
-pub returns : goal.returns
-returns c = fault_keeps

@@ -1,5 +1,0 @@
-use Rattle.dali_system.proofs.Deaths.{recover_keeps}
-use Rattle.dali_system.proofs.laws.recovery_keeps_a_run.Goals as goal
-
-pub returns : goal.returns
-returns c = recover_keeps

@@ -1,5 +1,0 @@
-use Rattle.dali_system.proofs.QuietSteps.{region_keeps}
-use Rattle.dali_system.proofs.laws.region_keeps_a_run.Goals as goal
-
-pub returns : goal.returns
-returns c = region_keeps

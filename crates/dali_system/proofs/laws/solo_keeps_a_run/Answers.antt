@@ -1,5 +1,0 @@
-use Rattle.dali_system.proofs.RecordSteps.{solo_keeps}
-use Rattle.dali_system.proofs.laws.solo_keeps_a_run.Goals as goal
-
-pub returns : goal.returns
-returns c = solo_keeps

@@ -1,5 +1,0 @@
-use Rattle.dali_system.proofs.ImageSteps.{images_keep}
-use Rattle.dali_system.proofs.laws.steps_leave_the_images.Goals as goal
-
-pub returns : goal.returns
-returns c = images_keep

@@ -1,5 +1,0 @@
-use Rattle.dali_system.proofs.WhoLogs.{who_logs}
-use Rattle.dali_system.proofs.laws.the_state_tells_who_logs.Goals as goal
-
-pub returns : goal.returns
-returns c = who_logs

@@ -1,5 +1,0 @@
-use Rattle.dali_system.proofs.AuditSteps.{certifies_stays}
-use Rattle.dali_system.proofs.laws.what_a_pass_found_stays.Goals as goal
-
-pub returns : goal.returns
-returns c = certifies_stays

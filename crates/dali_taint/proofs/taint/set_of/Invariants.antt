@@ -1,7 +1,0 @@
-use Rattle.std.proofs.Common.{◌≡◌, ℕ, take}
-use Rattle.dali_record.specs.Damage.{has}
-use Rattle.dali_taint.specs.Tables.{has_number}
-use Rattle.dali_taint.proofs.taint.set_of.Given as goal
-
-abbrev pub invariant-loop-number : goal.invariant-loop-number
-invariant-loop-number l = (t : ℕ) → has_number l.set t ≡ has (take l.number-index l.numbers) t

@@ -1,8 +1,0 @@
-//! The scan for damage: which transactions read what was damaged, and which of their records a restart leaves out.
-#![tactic(auto)]
-
-mod marks;
-mod taint;
-mod undos;
-
-pub use taint::{Judgement, Taint};

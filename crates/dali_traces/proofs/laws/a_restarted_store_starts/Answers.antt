@@ -1,5 +1,0 @@
-use Rattle.dali_traces.proofs.Bridges.{restart_starts}
-use Rattle.dali_traces.proofs.laws.a_restarted_store_starts.Goals as goal
-
-pub returns : goal.returns
-returns g c = λ v. restart_starts (g.V.Store.may_leave v)

@@ -1,5 +1,0 @@
-use Rattle.dali_traces.proofs.Bridges.{store_starts}
-use Rattle.dali_traces.proofs.laws.a_store_at_rest_starts.Goals as goal
-
-pub returns : goal.returns
-returns g c = λ v. store_starts (g.V.Store.may_leave v)

@@ -1,5 +1,0 @@
-use Rattle.dali_traces.proofs.Growth.{anchor_tells, anchor_tells_inside}
-use Rattle.dali_traces.proofs.laws.the_anchor_tells_the_current_image.Goals as goal
-
-pub returns : goal.returns
-returns c = record { behind = anchor_tells; inside = anchor_tells_inside }

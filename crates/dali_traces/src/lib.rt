@@ -1,6 +1,0 @@
-//! Crash images, one by one: along the steps of a core with its store, and as the bytes of the four files.
-#![tactic(auto)]
-
-pub mod anchoring;
-pub mod flushing;
-pub mod laws;

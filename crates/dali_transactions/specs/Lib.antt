@@ -1,0 +1,9 @@
+pub mod Refused
+pub mod Stands
+pub mod Ended
+pub mod Left
+pub mod Committed
+pub mod Steps
+pub mod Guards
+pub mod Courses
+pub mod Beside

@@ -1,0 +1,113 @@
+//! A commit in steps of its own, between which others make theirs: its record; behind a flush each of its removals; its end.
+ghost use Rattle.std.specs.Prelude.{◌≡◌, [], true, false, Some, None, Err, IfSome, IfOk, OnOk, OnErr, IfErr};
+ghost use Rattle.dali_runs.specs.State.{state_of};
+ghost use Rattle.dali_runs.specs.Steps.{commit_logged, ended_logged};
+ghost use Rattle.dali_runs.specs.declared.causes.Cause.TheVariants.{Store as ByStore};
+ghost use Rattle.dali_calls.specs.Flags.{FlagsStay};
+ghost use Rattle.dali_clean.specs.Others.{OthersStay};
+ghost use Rattle.dali_transactions.specs.declared.error.CommitError.TheVariants.{Stopped, OutOfMemory};
+ghost use Rattle.dali_transactions.specs.Ended.{Comes};
+ghost use Rattle.dali_att.specs.declared.state.State.TheVariants.{Committed};
+ghost use Rattle.dali_transactions.specs.Guards.{MayFreeOn};
+ghost use Rattle.dali_transactions.specs.Left.{none_of, FreesIn, Left};
+ghost use Rattle.dali_transactions.specs.Steps.{CommitLogs, RemovalFrees, CommitEnds};
+
+use crate::error::CommitError;
+use crate::guards::{may_end, may_free};
+use crate::parts::free_one;
+use dali_calls::single::StepError;
+use dali_core::Core;
+use dali_record::Pending;
+use dali_runs::Cause;
+use dali_store::Store;
+use std::alloc::Global;
+
+/// Logs the commit of a live transaction, and answers what it removed, for `free_removal`. It isn't durable before its flush.
+///
+/// `Stopped` exactly where the engine is stopped, with that cause, or the vault is (cause: the store), and else `OutOfMemory`,
+/// where memory is refused, or where the core hasn't what each point of a run has of a live transaction. Nothing has changed
+/// then.
+pub fn log_commit<V: Store>(
+    core: &mut Core<V>,
+    alloc: Global,
+    txn: u64,
+) -> Result<Vec<Pending>, CommitError>
+    ensures logged { OnOk result (core.new ≡ record core.old { system = core.new.system }) }
+    ensures state { OnOk result (core.new.system.state ≡ commit_logged core.old.system.state txn) }
+    ensures ok { IfOk result (λ removals. CommitLogs V.Store core.old.regions.items core.old.system.state core.old.vault txn removals.items) }
+    ensures others { OthersStay core.old.regions.items core.old.system.state txn core.new.regions.items core.new.system.state }
+    ensures err { OnErr result (core.new ≡ core.old) }
+    ensures stopped { IfSome core.old.system.state.stop (λ cause. result ≡ Err (Stopped cause)) }
+    ensures vault_stopped { core.old.system.state.stop ≡ None → core.old.vault.stopped ≡ true → result ≡ Err (Stopped ByStore) }
+    ensures memory { core.old.system.state.stop ≡ None → core.old.vault.stopped ≡ false → IfErr result (λ e. e ≡ OutOfMemory) }
+{
+    if let Some(cause) = core.system.stopped() {
+        return Err(CommitError::Stopped { cause });
+    }
+    if core.vault.stopped() {
+        let cause = Cause::Store;
+        return Err(CommitError::Stopped { cause });
+    }
+    if !may_end(&core.regions, &core.system, txn) {
+        return Err(CommitError::OutOfMemory);
+    }
+    match dali_calls::single::commit(alloc, &mut core.system, txn) {
+        Ok(removals) => Ok(removals),
+        Err(_) => Err(CommitError::OutOfMemory),
+    }
+}
+
+/// Frees for good one removal of a committed transaction, the first of those that are left. Where a dead client has latched its
+/// region, the operation in which that client died is taken back first, and its transaction stays dead. No call of the store
+/// is made. Where it is refused nothing is logged, and it may be asked for again.
+pub fn free_removal<V: Store>(
+    core: &mut Core<V>,
+    txn: u64,
+    removal: &Pending,
+) -> Result<(), CommitError>
+    ensures ok { OnOk result (RemovalFrees V.Store txn removal.now core.old.regions.items core.old.system.state core.old.vault core.new.regions.items core.new.system.state) }
+    ensures left { OnErr result (Comes V.Store txn none_of [] core.old.regions.items core.old.system.state core.old.vault core.new.regions.items core.new.system.state) }
+    ensures others { OthersStay core.old.regions.items core.old.system.state txn core.new.regions.items core.new.system.state }
+    ensures still { state_of core.new.system.state txn ≡ state_of core.old.system.state txn }
+    ensures locks { core.new.system.state.locks ≡ core.old.system.state.locks }
+    ensures memory { IfErr result (λ e. e ≡ OutOfMemory) }
+    ensures vault { core.new.vault ≡ core.old.vault }
+    ensures flags { FlagsStay core.old.regions.items core.new.regions.items }
+{
+    if !may_free(&core.regions, &core.system, txn, removal) {
+        return Err(CommitError::OutOfMemory);
+    }
+    match free_core(core, txn, removal) {
+        Ok(()) => Ok(()),
+        Err(_) => Err(CommitError::OutOfMemory),
+    }
+}
+
+// Frees one removal of a committed transaction of a core.
+fn free_core<V: Store>(core: &mut Core<V>, txn: u64, removal: &Pending) -> Result<(), StepError>
+    requires { MayFreeOn core.old.regions.items core.old.system.state txn removal.now }
+    ensures freed { OnOk result (FreesIn txn removal.now core.old.regions.items core.old.system.state core.new.regions.items core.new.system.state) }
+    ensures left { OnErr result (Left none_of [] txn core.old.regions.items core.old.system core.new.regions.items core.new.system) }
+    ensures others { OthersStay core.old.regions.items core.old.system.state txn core.new.regions.items core.new.system.state }
+    ensures still { state_of core.new.system.state txn ≡ Some Committed }
+    ensures locks { core.new.system.state.locks ≡ core.old.system.state.locks }
+    ensures flags { FlagsStay core.old.regions.items core.new.regions.items }
+    ensures vault { core.new.vault ≡ core.old.vault }
+{
+    free_one(&mut core.regions, &mut core.system, txn, removal)
+}
+
+/// Logs the end of a committed transaction, all of whose removals are freed: it has no row, no lock and no memory promised any
+/// more. Where it is refused nothing has changed.
+pub fn end_commit<V: Store>(core: &mut Core<V>, txn: u64) -> Result<(), CommitError>
+    ensures ok { OnOk result (CommitEnds V.Store txn core.old.regions.items core.old.system.state core.old.vault core.new.regions.items core.new.system.state) }
+    ensures state { OnOk result (core.new.system.state ≡ ended_logged core.old.system.state txn) }
+    ensures rest { core.new ≡ record core.old { system = core.new.system } }
+    ensures err { OnErr result (core.new ≡ core.old) }
+    ensures memory { core.old.system.state.stop ≡ None → IfErr result (λ e. e ≡ OutOfMemory) }
+{
+    match core.system.ended(txn) {
+        Ok(_) => Ok(()),
+        Err(_) => Err(CommitError::OutOfMemory),
+    }
+}

@@ -1,5 +1,0 @@
-use Rattle.dali_undos.proofs.Found.{backs_find}
-use Rattle.dali_undos.proofs.laws.a_taking_back_found_its_slot_as_it_was_left.Goals as goal
-
-pub returns : goal.returns
-returns c = backs_find

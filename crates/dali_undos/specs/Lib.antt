@@ -1,2 +1,0 @@
-pub mod AsLeft
-pub mod Worked

@@ -1,4 +1,0 @@
-//! An undo finds its slot as its transaction left it.
-#![tactic(auto)]
-
-pub mod laws;

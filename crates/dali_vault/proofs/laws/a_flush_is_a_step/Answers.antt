@@ -1,5 +1,0 @@
-use Rattle.dali_vault.proofs.Stepped.{flush_is_step}
-use Rattle.dali_vault.proofs.laws.a_flush_is_a_step.Goals as goal
-
-pub returns : goal.returns
-returns g c = flush_is_step g.V.Store.faults

@@ -1,5 +1,0 @@
-use Rattle.dali_vault.proofs.Stepped.{turn_is_counted, others_leave}
-use Rattle.dali_vault.proofs.laws.the_other_calls_leave_a_vault.Goals as goal
-
-pub returns : goal.returns
-returns g c = record { turn = turn_is_counted g.V.Store.faults; others = others_leave g.V.Store.faults }

@@ -1,2 +1,0 @@
-pub mod Vaulted
-pub mod Stepped

@@ -1,4 +1,0 @@
-pub mod Flushing
-pub mod CleanedUp
-pub mod Moments
-pub mod Lengths

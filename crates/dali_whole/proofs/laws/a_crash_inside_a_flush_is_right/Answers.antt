@@ -1,5 +1,0 @@
-use Rattle.dali_whole.proofs.Moments.{flush_right}
-use Rattle.dali_whole.proofs.laws.a_crash_inside_a_flush_is_right.Goals as goal
-
-pub returns : goal.returns
-returns g c = flush_right g.V.Store.told g.V.Store.may_leave g.V.Store.faults

@@ -1,5 +1,0 @@
-use Rattle.dali_whole.proofs.Flushing.{committed_stands}
-use Rattle.dali_whole.proofs.laws.a_flushed_commit_is_in_each_crash_image.Goals as goal
-
-pub returns : goal.returns
-returns g c = committed_stands g.V.Store.told g.V.Store.may_leave g.V.Store.faults

@@ -1,4 +1,0 @@
-pub mod Cores
-pub mod Flushed
-pub mod Cleaned
-pub mod Moments
