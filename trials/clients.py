@@ -1,6 +1,8 @@
 """Clients beside each other: who waits for a key and who is tried again; and clients that die, whose transactions are taken back, each
 with the operation in which its client died."""
+import formats as f
 from shapes import Case, Run, lines
+from worked import Database
 
 DEAD_IN_PUT = "client 1; begin; insert 5 abc; die 2; insert 6 x; end"
 DEAD_TOLD = "1 begin 1; 1 insert ok; 1 died"
@@ -27,7 +29,20 @@ def shared(name: str, first: str, second: str, first_told: str, second_told: str
     return Case(name, Run(script, lines(KEY_TOLD) + said(1, first_told) + said(2, second_told) + lines("9 b; records 1")))
 
 
+def the_put_is_durable(files: dict[str, bytes]) -> bool | str:
+    """Whether the log has the look and the put of the insert of key 5, and nothing of its add."""
+    database = Database(1, 1)
+    made = [f.operation(1, database.look(5, 0)), f.operation(1, database.put(5, 1, b"abc"))]
+    whole = f.log(f.formatted(1, 1), f.batch(f.begin(1), *made, f.audit_begin(), f.audit_clean(4)))
+    return files["dali.log"] == whole or f"{files['dali.log'].hex()}, wanted {whole.hex()}"
+
+
 CASES = [
+    Case("a put that is logged and flushed, and whose insert isn't done, is rolled back", [
+        Run(lines("size 1 1; client 1; begin; die 3; insert 5 abc; end; audit"), lines("1 begin 1; 1 died; audit clean"),
+            crash=1, after=the_put_is_durable),
+        Run(lines("open; show"), lines("rolled back 1; deleted none; records 0")),
+    ]),
     shared("an older reader that writes", WRITES, READS, "begin 2; got a; update ok; commit ok", f"begin 3; {READ_FIRST}"),
     shared("a younger reader that writes", READS, WRITES, f"begin 2; {READ_FIRST}",
            "begin 3; got a; aborted; begin 4; got a; update ok; commit ok"),

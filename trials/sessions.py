@@ -1,4 +1,5 @@
 """Scripts of one run over an empty folder with what it writes, worked out by hand from docs/SCRIPT.md and docs/MODEL.md."""
+import formats as f
 from shapes import Case, Run, lines
 
 # In each row a name, the script, and its lines.
@@ -127,4 +128,25 @@ TABLE = [
             "records 1")),
 ]
 
-CASES = [Case(name, Run(script, wanted)) for name, script, wanted in TABLE]
+
+
+def stands_where_the_walk_leads(files: dict[str, bytes]) -> bool | str:
+    """Whether key 42 has entry 0 of region 1 and cell 1 of region 2, and the flag of region 0 is up, in the image of the first checkpoint."""
+    def word(region: int, number: int) -> int:
+        at = HEADER + 8 * (f.WORDS * region + number)
+        return int.from_bytes(files["dali.a"][at:at + 8], "big")
+
+    entry, cell = [word(1, number) for number in (1, 2, 3)], [word(2, number) for number in (8, 9, 10)]
+    flags = [word(0, 0), word(1, 0)]
+    return entry == [1, 42, 8 * 2 + 1] and cell == [1, 42, 1] and flags == [1, 0] or f"{entry}, {cell}, {flags}"
+
+
+HEADER = 64
+"""The bytes of an image before its regions."""
+
+CASES = [Case(name, Run(script, wanted)) for name, script, wanted in TABLE] + [
+    Case("where the first record of a full region's walk stands", Run(
+        lines("size 2 4; client 1; begin", *(f"insert {key} v" for key in range(0, 44, 2)), "commit; checkpoint; end"),
+        lines("1 begin 1", *22 * ["1 insert ok"], "1 commit ok; 1 checkpoint 1"),
+        after=stands_where_the_walk_leads)),
+]

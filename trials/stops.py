@@ -46,6 +46,33 @@ CHAIN = Run(
 
 RECOVERED = lines("rolled back none; deleted 3 5; 4 abc; 5 y; records 2")
 
+WHOLE_CHAIN = replace(CHAIN, script=CHAIN.script + lines("restart; show"), out=CHAIN.out + RECOVERED)
+
+# What stands behind so many of the chain's commits, where no audit has told of the damage.
+BEHIND = [[], ["4 abc"], ["4 abc", "5 xyz"], ["4 abc", "5 xyz", "6 qq"], ["4 abc", "5 y", "6 qq"], ["4 abc", "5 y", "6 qq"]]
+
+
+def keeps_the_chain(_number: int, done: list[Done]) -> bool | str:
+    """Whether the later run finds the commits that were told, one more at most, and just those of the chain deleted where the audit was
+    told; with all commits it may know of the damage before that."""
+    first, later = done
+    if first.out == WHOLE_CHAIN.out:
+        return "the store didn't fail"
+    if first.status not in (0, 6) or (first.status == 6) != first.out.endswith("store fault\n"):
+        return f"the first ends with {first.status} and {first.out!r}"
+    told = first.out.count("1 commit ok")
+    if later.status == 8:
+        return told == 0 or f"{told} commits were told, and there is no database"
+    deleted = later.out.split("\n")[1]
+    records = later.out.split("\n")[2:-2]
+    if deleted == "deleted 3 5":
+        return told == 5 and records == ["4 abc", "5 y"] or f"{told} commits were told; {later.out!r}"
+    if "1 audit failed 3" in first.out:
+        return f"the audit was told; {later.out!r}"
+    there = [number for number in (told, told + 1) if number <= 5 and records == BEHIND[number]]
+    return later.status == 0 and deleted == "deleted none" and there != [] or f"{told} commits were told; {later.out!r}"
+
+
 # How many calls of the store the restart behind the chain makes.
 CALLS = 40
 
@@ -80,6 +107,13 @@ CASES = [
     *(Sweep(f"a store that stops loses nothing that was told, cut by {choice}",
         lambda call, choice=choice: [replace(EACH_COMMAND, passes=call, crash=choice, out=None, status=None), LATER],
         EACH_COMMAND, least=31, holds=keeps_what_was_told) for choice in range(5)),
+    Case("the whole chain", WHOLE_CHAIN),
+    Sweep("a call of the store that fails once in the whole chain loses nothing that was told",
+        lambda call: [replace(WHOLE_CHAIN, fail_calls=[call], out=None, status=None), LATER],
+        WHOLE_CHAIN, least=60, holds=keeps_the_chain),
+    *(Sweep(f"a store that stops in the whole chain loses nothing that was told, cut by {choice}",
+        lambda call, choice=choice: [replace(WHOLE_CHAIN, passes=call, crash=choice, out=None, status=None), LATER],
+        WHOLE_CHAIN, least=60, holds=keeps_the_chain) for choice in range(5)),
     Case("the chain without a stop", [CHAIN, Run(lines("open; show"), RECOVERED)]),
     *(Sweep(f"a restart that a fuse stops, cut by {choice}",
         lambda number, choice=choice: stopped_by_a_fuse(number, choice), range(CALLS + 1), least=10) for choice in range(5)),
