@@ -191,6 +191,12 @@ const GROWTH: [u64; 3] = [1_000, 10_000, 100_000];
 
 const MOST_GROWTH: f64 = 1.3;
 
+/// How many transactions are committed to one database of 10,000 records, whose size is to stay.
+const STEADY: [u64; 2] = [100_000, 1_000_000];
+
+/// How much more memory the greater count may take.
+const MOST_STEADY: f64 = 1.05;
+
 /// How many commits the row of syncs has.
 const SYNCED: u64 = 500;
 
@@ -370,6 +376,24 @@ fn print_growth(counts: [u64; 2], grown: [&[Run]; 2]) {
     );
 }
 
+/// Prints the row of the greater count of commits, beside that of the smaller one. Its goal is of memory.
+fn print_steady(steady: [&[Run]; 2]) {
+    let runs = steady.map(median);
+    let times = runs[0].rate as f64 / runs[1].rate as f64;
+    let grown = runs[1].kibibytes as f64 / runs[0].kibibytes as f64;
+    println!(
+        "| commit {} updates of 10,000 records, one a transaction, a hundred a flush, real files | dali with {} | {} commits | {} | {times:.2} times | {} | at most {MOST_STEADY} times the MiB | {} | {} | {} |",
+        in_threes(STEADY[1]),
+        in_threes(STEADY[0]),
+        in_threes(runs[1].rate),
+        in_threes(runs[0].rate),
+        middle_half(&Goal::Unset, steady[1], steady[0]),
+        if grown <= MOST_STEADY { "yes" } else { "no" },
+        mebibytes(runs[1]),
+        mebibytes(runs[0]),
+    );
+}
+
 /// Prints the row of the script, beside the same transactions without script and lines.
 fn print_script(script: &[Run], direct: &[Run]) {
     let runs = [script, direct].map(median);
@@ -525,6 +549,14 @@ impl Sides<'_> {
         command.arg(name).arg("--count").arg(count.to_string());
         run(&mut command)
     }
+
+    /// The same over files in a new folder.
+    fn in_files(&self, name: &str, count: u64) -> io::Result<Run> {
+        let mut command = Command::new(self.dali);
+        command.arg(name).arg("--count").arg(count.to_string());
+        command.arg("--folder").arg(&self.new);
+        run(&mut command)
+    }
 }
 
 fn print_turns(sides: &Sides, row: &Row) -> io::Result<()> {
@@ -614,6 +646,22 @@ fn print_growths(sides: &Sides) -> io::Result<()> {
     Ok(())
 }
 
+fn print_steadies(sides: &Sides) -> io::Result<()> {
+    let mut steady = [const { Vec::new() }; STEADY.len()];
+    for turn in 0..TURNS {
+        for place in 0..STEADY.len() {
+            let place = if turn % 2 == 0 { place } else { STEADY.len() - 1 - place };
+            steady[place].push(sides.in_files("steady", STEADY[place])?);
+        }
+    }
+    for runs in &steady {
+        compare("steady", runs)?;
+    }
+    let [fewer, more] = &steady;
+    print_steady([fewer, more]);
+    Ok(())
+}
+
 fn print_scripts(sides: &Sides) -> io::Result<()> {
     let mut script = Vec::new();
     let mut direct = Vec::new();
@@ -632,7 +680,7 @@ fn print_scripts(sides: &Sides) -> io::Result<()> {
 }
 
 /// The names of rows that stand in a function of their own.
-const OTHERS: [&str; 4] = ["syncs", "codewords", "growth", "script"];
+const OTHERS: [&str; 5] = ["syncs", "codewords", "growth", "steady", "script"];
 
 /// Refuses names that no row has.
 pub fn know(names: &[&str], is_known: impl Fn(&str) -> bool) -> io::Result<()> {
@@ -666,6 +714,9 @@ pub fn print(program: &Path, script: &Path, folder: &Path, names: &[&str]) -> io
     }
     if is_asked("growth") {
         print_growths(&sides)?;
+    }
+    if is_asked("steady") {
+        print_steadies(&sides)?;
     }
     if is_asked("script") {
         print_scripts(&sides)?;

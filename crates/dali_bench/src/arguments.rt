@@ -22,6 +22,8 @@ pub enum Task {
     Notes,
     /// Commits transactions to files in a new folder within a folder.
     Commit,
+    /// Updates the records of one database in files, so often that its size tells what stays in memory.
+    Steady,
     /// Inserts records into a database in memory.
     Growth,
     /// Makes a database in memory, and commits the transactions that a script has in `dali_bench_script`.
@@ -40,7 +42,7 @@ pub enum Task {
     Small,
 }
 
-const TASKS: [Task; 16] = [
+const TASKS: [Task; 17] = [
     Task::Codec,
     Task::Locks,
     Task::Update,
@@ -49,6 +51,7 @@ const TASKS: [Task; 16] = [
     Task::Claims,
     Task::Notes,
     Task::Commit,
+    Task::Steady,
     Task::Growth,
     Task::Direct,
     Task::Insert,
@@ -70,6 +73,7 @@ impl Task {
             Task::Claims => "claims",
             Task::Notes => "notes",
             Task::Commit => "commit",
+            Task::Steady => "steady",
             Task::Growth => "growth",
             Task::Direct => "direct",
             Task::Insert => "insert",
@@ -92,6 +96,8 @@ impl Task {
             Task::Notes => "Adds COUNT entries to a history, and lets another note meet each",
             Task::Commit =>
                 "Commits COUNT transactions of one insert to files in a folder within FOLDER",
+            Task::Steady =>
+                "Commits COUNT transactions of one update on 10,000 records, a hundred a flush, to files in a folder within FOLDER",
             Task::Growth => "Inserts COUNT records in transactions of five, in memory",
             Task::Direct => "Commits COUNT transactions of five inserts, in memory",
             Task::Insert => "Makes COUNT calls that insert, five a transaction",
@@ -108,7 +114,7 @@ impl Task {
     }
 
     fn has_folder(self) -> bool {
-        matches!(self, Task::Commit | Task::Small)
+        matches!(self, Task::Commit | Task::Steady | Task::Small)
     }
 }
 

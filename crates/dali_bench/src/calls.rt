@@ -162,11 +162,12 @@ pub fn run_transaction(
     end(alloc, regions, system, txn)
 }
 
-// So many calls, in transactions of so many.
+// So many calls, in transactions of so many. What each logs goes into the log.
 fn run_transactions(
     alloc: Global,
     regions: &mut [Region],
     system: &mut System,
+    log: &mut Vec<u8>,
     kind: Kind,
     transactions: u32,
     calls: u32,
@@ -175,24 +176,27 @@ fn run_transactions(
     for number in 0..transactions as u64 {
         let first = number.wrapping_mul(calls as u64);
         run_transaction(alloc, regions, system, kind, first, calls, &values)?;
+        log.extend_from_slice(system.frame().body())?;
         system.flushed();
     }
     Ok(())
 }
 
 // So many calls in transactions of `calls`, on keys that were inserted before where the calls find them. The check number
-// is that of the bytes that the system has logged.
+// is that of the bytes that the system logged.
 fn run_in(clock: &impl Clock, alloc: Global, kind: Kind, count: u32, calls: u32) -> Result<Timing>
     requires { 0 < calls }
 {
     let geometry = sizes_for(count)?;
     let mut regions = load(alloc, &geometry)?;
     let mut system = System::new(alloc, geometry, 1, 1, 10, LIMIT)?;
+    let mut log = Vec::new(alloc);
     if kind != Kind::Insert {
         run_transactions(
             alloc,
             &mut regions,
             &mut system,
+            &mut log,
             Kind::Insert,
             count / CALLS,
             CALLS,
@@ -200,9 +204,17 @@ fn run_in(clock: &impl Clock, alloc: Global, kind: Kind, count: u32, calls: u32)
     }
     let transactions = count / calls;
     let start = Instant::now(clock)?;
-    run_transactions(alloc, &mut regions, &mut system, kind, transactions, calls)?;
+    run_transactions(
+        alloc,
+        &mut regions,
+        &mut system,
+        &mut log,
+        kind,
+        transactions,
+        calls,
+    )?;
     let timing = Timing::since(clock, start, transactions as u64 * calls as u64, unit(kind))?;
-    Ok(timing.checked(mix_bytes(system.logged())))
+    Ok(timing.checked(mix_bytes(log.as_slice())))
 }
 
 /// So many calls on as many keys, in transactions of five.

@@ -1,8 +1,8 @@
 //! Databases that are made and filled.
-use crate::calls::{CALLS, Kind, LIMIT, begin, call_all, sizes_for, values};
+use crate::calls::{CALLS, Kind, LIMIT, begin, call_all, run_transaction, sizes_for, values};
 use crate::timing::Timing;
 use anyhow::{Result, ensure};
-use dali_core::Core;
+use dali_core::{Core, flush};
 use dali_geometry::Geometry;
 use dali_memstore::MemoryStore;
 use dali_restart::format;
@@ -15,6 +15,12 @@ use std::time::{Duration, Instant};
 
 /// How many records are inserted in all while growth is timed, where the count of one database divides it.
 const RECORDS: u32 = 100_000;
+
+/// How many records the database has that is updated while its size stays.
+const KEPT: u32 = 10_000;
+
+/// How many of its transactions one flush makes durable.
+const GROUP: u32 = 100;
 
 /// A new database of these sizes.
 pub fn make<V: Store + Drop>(alloc: Global, store: V, geometry: Geometry) -> Result<Core<V>> {
@@ -88,6 +94,53 @@ pub fn commit<V: Store + Drop>(
 ) -> Result<Timing> {
     let (elapsed, length) = time_filling(clock, alloc, store, count, 1)?;
     Ok(Timing::new(count as u64, "commits", elapsed).checked(length))
+}
+
+// So many transactions of one update each, on one record after another from this one on, and a flush of them all.
+fn update_group<V: Store>(
+    alloc: Global,
+    core: &mut Core<V>,
+    first: u32,
+    transactions: u32,
+    values: &[Value; 2],
+) -> Result<()> {
+    for number in 0..transactions as u64 {
+        let key = (first as u64 + number) % KEPT as u64;
+        run_transaction(
+            alloc,
+            &mut core.regions,
+            &mut core.system,
+            Kind::Update,
+            key,
+            1,
+            values,
+        )?;
+    }
+    ensure!(core.vault.end() < 1 << 62, "the log is too long");
+    flush(core, alloc)?;
+    Ok(())
+}
+
+/// Commits so many transactions of one update each, rounded down to hundreds, to a database of 10,000 records. One flush makes a
+/// hundred of them durable. The check number is the log's length.
+pub fn update_steadily<V: Store + Drop>(
+    clock: &impl Clock,
+    alloc: Global,
+    store: V,
+    count: u32,
+) -> Result<Timing> {
+    let values = values()?;
+    let mut core = make(alloc, store, sizes_for(KEPT)?)?;
+    fill(alloc, &mut core, KEPT / CALLS, CALLS)?;
+    let groups = count / GROUP;
+    let start = Instant::now(clock)?;
+    for group in 0..groups {
+        let first = group % (KEPT / GROUP) * GROUP;
+        update_group(alloc, &mut core, first, GROUP, &values)?;
+    }
+    let elapsed = start.elapsed(clock)?;
+    let length = core.into_store().length(FileName::Log)?;
+    Ok(Timing::new(groups as u64 * GROUP as u64, "commits", elapsed).checked(length))
 }
 
 // The same in a new store in memory, in transactions of five.

@@ -52,6 +52,13 @@ fn time_commits(rt: &HostRuntime, count: u32, within: &str) -> Result<Timing> {
     remove(rt, folder.as_str(), timing)
 }
 
+fn time_updates(rt: &HostRuntime, count: u32, within: &str) -> Result<Timing> {
+    let folder = make_folder(rt, within)?;
+    let store = FileStore::in_folder(rt, folder.as_str());
+    let timing = databases::update_steadily(rt, rt.alloc(), store, count);
+    remove(rt, folder.as_str(), timing)
+}
+
 // Does a little of each that has no files.
 fn run_small(rt: &HostRuntime) -> Result<()> {
     let alloc = rt.alloc();
@@ -68,11 +75,17 @@ fn run_small(rt: &HostRuntime) -> Result<()> {
     Ok(())
 }
 
+// Does a little of what has files, within a folder.
+fn time_few(rt: &HostRuntime, within: &str) -> Result<Timing> {
+    time_commits(rt, 3, within)?;
+    time_updates(rt, 100, within)
+}
+
 // Does a little of each.
 fn run_all(rt: &HostRuntime, within: &str) -> Result<()> {
     run_small(rt)?;
     let folder = make_folder(rt, within)?;
-    let timing = time_commits(rt, 3, folder.as_str());
+    let timing = time_few(rt, folder.as_str());
     remove(rt, folder.as_str(), timing)?;
     Ok(())
 }
@@ -96,6 +109,7 @@ fn run_job(rt: &HostRuntime, job: &Job) -> Result<()> {
         Task::Delete => calls::run(rt, alloc, Kind::Delete, count)?,
         Task::Tens => calls::run_tens(rt, alloc, count)?,
         Task::Commit => time_commits(rt, count, job.folder)?,
+        Task::Steady => time_updates(rt, count, job.folder)?,
         Task::Small => {
             run_all(rt, job.folder)?;
             println!(rt; "ok")?;

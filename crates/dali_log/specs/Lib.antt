@@ -15,4 +15,5 @@ pub mod Fields
 pub mod Formatting
 pub mod Laws
 pub mod Stream
+pub mod Entries
 pub mod Anchors

@@ -1,9 +1,12 @@
 //! A batch that is being put together.
 ghost use Rattle.std.specs.Prelude.{◌≡◌, ◌≤◌, ◌<◌, ◌+◌, ◌^◌, ℕ, List, [], ◌∷◌, ◌++◌, length, IfOk, IsOk, OnOk, OnErr, IsTrue, ◌↔◌};
 ghost use Rattle.dali_store.specs.Faults.{one_more};
+ghost use Rattle.dali_record.specs.Spelling.{CanBeSpelled, spelling};
 ghost use Rattle.dali_log.specs.Batch.{closed_gate, frame_of};
+ghost use Rattle.dali_log.specs.Entries.{record_of};
 
 use crate::CLOSED;
+use crate::entry::{Entry, append};
 use byteorder::{BigEndian, ByteOrder};
 use dali_bytes::OutOfMemory;
 use std::alloc::Global;
@@ -11,6 +14,9 @@ use std::marker::Model;
 
 // The bytes of a frame beside its records: their length before them, and the next gate behind.
 const BESIDE: usize = 5;
+
+// The bytes of the length.
+const LENGTH: usize = 4;
 
 /// The records of a batch, ready to be written with their length and the next closed gate. Contracts see the bytes
 /// of the records, how many records they are, and for how many bytes more there is memory. A frame without records is
@@ -87,6 +93,29 @@ impl Frame {
         settle(&mut self.bytes, gate);
         self.records = self.records.saturating_add(1);
         Ok(())
+    }
+
+    /// Writes a record's spelling behind the bytes that are there: what `add` does with its bytes.
+    pub fn write(&mut self, given: Entry<'_>) -> Result<(), OutOfMemory>
+        requires spelled { CanBeSpelled (record_of given) }
+        requires few { length self.old.body + length (spelling (record_of given)) ≤ 2 ^ 30 }
+        ensures ok { OnOk result ((self.new.body ≡ self.old.body ++ spelling (record_of given.entry)) × (self.old.room ≤ self.new.room + length (spelling (record_of given.entry)))) }
+        ensures records { OnOk result (self.new.records ≡ one_more self.old.records) }
+        ensures room { length (spelling (record_of given.entry)) ≤ self.old.room → IsOk result }
+        ensures err { OnErr result ((self.new.body ≡ self.old.body) × (self.new.records ≡ self.old.records) × (self.old.room ≤ self.new.room)) }
+    {
+        let gate = self.bytes.len() - 1;
+        append(given, &mut self.bytes)?;
+        settle(&mut self.bytes, gate);
+        self.records = self.records.saturating_add(1);
+        Ok(())
+    }
+
+    /// The bytes of the records.
+    pub fn body(&self) -> &[u8]
+        ensures { result.now ≡ self.now.body }
+    {
+        &self.bytes[LENGTH..LENGTH + self.len()]
     }
 
     /// How many bytes the records have, at most 2^30.

@@ -5,6 +5,7 @@
 #![tactic(auto)]
 
 mod anchoring;
+mod entry;
 mod error;
 mod finding;
 mod formatting;
@@ -15,6 +16,7 @@ mod reading;
 mod writing;
 
 pub use anchoring::move_anchor;
+pub use entry::{Entry, entry_length};
 pub use error::{BatchError, LogError};
 pub use finding::{Body, Found, find};
 pub use formatting::{format, is_formatted};

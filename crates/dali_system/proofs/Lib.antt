@@ -7,3 +7,4 @@ pub mod Guards
 pub mod RowsAre
 pub mod Totals
 pub mod Lights
+pub mod Walks

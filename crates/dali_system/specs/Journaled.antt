@@ -4,8 +4,8 @@
 --     waiting j                those that aren't taken
 --     noted_by j x u           with one record more, which uses u
 --     noted j x                which uses nothing; noted_from j x t n    n of the bytes promised to t; noted_last j x t      all of them
---     HasMemory n len capacity f       there is memory for n bytes more behind so many bytes, and in the frame
---     IsKept L f count taken           what is true of every journal
+--     HasMemory n all f                there is memory for n bytes more in the frame, and all records together may have as many more
+--     IsKept L f count taken all       what is true of every journal
 use Rattle.std.specs.Prelude.{◌≡◌, ℕ, ◌+◌, ◌≤◌, ◌^◌, List, [], ◌∷◌, ◌++◌, length, drop}
 use Rattle.dali_record.specs.declared.records.Record.{Record}
 use Rattle.dali_log.specs.Log.{body_bytes}
@@ -35,18 +35,18 @@ abbrev pub noted : Journaled → Record → Journaled
 noted j x = record { since = j.since ++ x ∷ []; taken = j.taken; promised = j.promised }
 
 -- within the limits of a frame and of all bytes
-pub record HasMemory (n len capacity : ℕ) (f : Framed) : Type 0 where
-  pub bytes : len + n ≤ capacity
+pub record HasMemory (n all : ℕ) (f : Framed) : Type 0 where
   pub frame : n ≤ f.room
   pub few : length f.body + n ≤ 2 ^ 30
-  pub small : len + n ≤ 2 ^ 62
+  pub small : all + n ≤ 2 ^ 62
 
-pub record IsKept (L : List Record) (f : Framed) (count taken : ℕ) : Type 0 where
+pub record IsKept (L : List Record) (f : Framed) (count taken all : ℕ) : Type 0 where
   pub counts : count ≡ length L
   pub within : taken ≤ length L
   pub frame : f.body ≡ body_bytes (drop taken L)
   pub records : f.records ≡ length (drop taken L)
-  pub small : length (body_bytes L) ≤ 2 ^ 62
+  pub weighs : all ≡ length (body_bytes L)
+  pub small : all ≤ 2 ^ 62
 
 -- what follows of a journal: its records are as many as its bytes at most
 pub record IsSmall (j : Journaled) : Type 0 where

@@ -1,7 +1,5 @@
-pub mod Spelled
 pub mod Promised
 pub mod Journaled
-pub mod Entries
 pub mod Refused
 pub mod Receipts
 pub mod Coded

@@ -1,46 +1,42 @@
-//! The records since the load, as their spellings.
-ghost use Rattle.std.specs.Prelude.{◌≡◌, ◌≤◌, ◌+◌, ◌^◌, ◌++◌, [], ◌∷◌, length, take, drop, vec_len, vec_capacity, OnOk, OnErr, IsOk, IfOk};
+//! The records since the load, of which those that wait are kept.
+ghost use Rattle.std.specs.Prelude.{◌≡◌, ◌≤◌, ◌+◌, ◌++◌, [], length, OnOk, OnErr, IsOk, IfOk};
 ghost use Rattle.dali_record.specs.declared.records.Record.TheVariants.{Forward, Back, Solo};
 ghost use Rattle.dali_record.specs.Spelling.{CanBeSpelled, spelling};
 ghost use Rattle.dali_store.specs.Faults.{one_more};
 ghost use Rattle.dali_log.specs.Log.{body_bytes};
-ghost use Rattle.dali_system.specs.Spelled.{Spelled, Spelled-prop};
-ghost use Rattle.dali_system.specs.Entries.{record_of};
+ghost use Rattle.dali_log.specs.Entries.{record_of};
 ghost use Rattle.std.specs.FinMap as map;
 ghost use Rattle.dali_system.specs.Promised.{promised_to, Covers};
 ghost use Rattle.dali_system.specs.Journaled.{waiting, noted, noted_by, noted_from, noted_last, HasMemory, IsSmall};
 
+use crate::past::RecordsSince;
 use crate::promises::{Promises, Uses};
 use dali_bytes::OutOfMemory;
-use dali_log::{Frame, MOST_BYTES};
-use dali_record::{
-    Block, Record, encode, encode_back, encode_op, encode_solo, length, op_record_length,
-    solo_record_length,
-};
+use dali_log::{Entry, Frame, MOST_BYTES, entry_length};
+use dali_record::{Block, Record};
 use std::alloc::Global;
 use std::marker::Model;
 use std::mem;
 
-// The most bytes that are kept.
-const MOST_KEPT: usize = 1 << 62;
+// The most bytes that all records have.
+const MOST_LOGGED: u64 = 1 << 62;
 
-/// The records that were logged since the load. It keeps their spellings, one behind the other, and a frame with the
-/// spellings of those that aren't flushed. Contracts see the records themselves: the bytes tell them.
+/// The records that were logged since the load. It keeps a frame with the spellings of those that aren't flushed, and
+/// counts the others. Contracts see all of them.
 ///
 /// Memory can be promised to records of a transaction that come later: whatever is logged in between, they take none
 /// then.
 #[derive(Drop)]
 pub struct Journal {
-    bytes: Vec<u8>,
+    since: RecordsSince,
     frame: Frame,
     count: u64,
     taken: u64,
+    bytes: u64,
     promises: Promises,
-    ghost spelled: { Spelled bytes.items } by { Spelled-prop bytes.items },
 }
 
 impl Model for Journal {
-    ghost use Rattle.std.specs.Prelude.{vec_len, vec_capacity};
     ghost use Rattle.dali_system.specs.Journaled.{Journaled, IsKept, HasMemory};
     ghost use Rattle.dali_system.specs.Coded.{journaled_code};
     ghost use Rattle.dali_system.specs.Promised.{total};
@@ -49,104 +45,45 @@ impl Model for Journal {
 
     ghost coded = { journaled_code };
 
-    ghost view = { λ j. record { since = j.spelled.0; taken = j.taken; promised = j.promises } };
+    ghost view = { λ j. record { since = j.since.records; taken = j.taken; promised = j.promises } };
 
-    ghost invariant = { λ j. IsKept j.spelled.0 j.frame j.count j.taken × HasMemory (total j.promises) (vec_len j.bytes) (vec_capacity j.bytes) j.frame };
+    ghost invariant = { λ j. IsKept j.since.records j.frame j.count j.taken j.bytes × HasMemory (total j.promises) j.bytes j.frame };
 }
 
 // Takes memory for a record of this length and so many bytes more, where there isn't; refused too where a batch or all records
 // would have too many.
-fn make_room(
-    bytes: &mut Vec<u8>,
-    frame: &mut Frame,
-    size: usize,
-    more: usize,
-) -> Result<(), OutOfMemory>
-    ensures ok { OnOk result (HasMemory (size + more) (vec_len bytes.new) (vec_capacity bytes.new) frame.new) }
-    ensures room { HasMemory (size + more) (vec_len bytes.old) (vec_capacity bytes.old) frame.old → IsOk result }
-    ensures same { (bytes.new.items ≡ bytes.old.items) × (vec_len bytes.new ≡ vec_len bytes.old) × (frame.new.body ≡ frame.old.body) × (frame.new.records ≡ frame.old.records) }
-    ensures kept { (vec_capacity bytes.old ≤ vec_capacity bytes.new) × (frame.old.room ≤ frame.new.room) }
+fn make_room(all: u64, frame: &mut Frame, size: u64, more: usize) -> Result<(), OutOfMemory>
+    ensures ok { OnOk result (HasMemory (size + more) all frame.new) }
+    ensures room { HasMemory (size + more) all frame.old → IsOk result }
+    ensures same { (frame.new.body ≡ frame.old.body) × (frame.new.records ≡ frame.old.records) }
+    ensures kept { frame.old.room ≤ frame.new.room }
 {
-    let room = size.checked_add(more).ok_or(OutOfMemory)?;
+    let room = (size as usize).checked_add(more).ok_or(OutOfMemory)?;
     if room > MOST_BYTES as usize - frame.len() {
         return Err(OutOfMemory);
     }
-    match bytes.len().checked_add(room) {
-        Some(all) if all <= MOST_KEPT => {}
+    match all.checked_add(room as u64) {
+        Some(sum) if sum <= MOST_LOGGED => {}
         _ => return Err(OutOfMemory),
     }
-    bytes.reserve(room)?;
     frame.reserve(room)?;
     Ok(())
 }
 
-// A record that is to be written, or the parts of an operation's record: its block is borrowed, and isn't copied into a record
-// first.
-#[derive(Clone, Copy)]
-enum Entry<'a> {
-    Whole(&'a Record),
-    Op {
-        txn: u64,
-        block: &'a Block,
-    },
-    Back {
-        txn: u64,
-        block: &'a Block,
-    },
-    Solo {
-        txn: u64,
-        parent: u64,
-        block: &'a Block,
-    },
-}
-
-// How many bytes its spelling has.
-fn size_of(given: Entry<'_>) -> u64
+// Writes a record's spelling into the frame, and leaves memory for so many bytes more. It answers how many bytes all records
+// have then.
+fn write(all: u64, frame: &mut Frame, given: Entry<'_>, more: usize) -> Result<u64, OutOfMemory>
     requires { CanBeSpelled (record_of given) }
-    ensures { result ≡ length (spelling (record_of given.entry)) }
-{
-    match given {
-        Entry::Whole(rec) => length(rec),
-        Entry::Op { txn, block } => op_record_length(txn, block),
-        Entry::Back { txn, block } => op_record_length(txn, block),
-        Entry::Solo { block, .. } => solo_record_length(block),
-    }
-}
-
-// Appends its spelling. No memory is wanted where there is room.
-fn append(given: Entry<'_>, into: &mut Vec<u8>) -> Result<(), OutOfMemory>
-    requires { CanBeSpelled (record_of given) }
-    ensures ok { OnOk result (into.new.items ≡ into.old.items ++ spelling (record_of given.entry)) }
-    ensures room { vec_len into.old + length (spelling (record_of given.entry)) ≤ vec_capacity into.old → IsOk result }
-    ensures capacity { vec_capacity into.old ≤ vec_capacity into.new }
-{
-    match given {
-        Entry::Whole(rec) => encode(rec, into),
-        Entry::Op { txn, block } => encode_op(txn, block, into),
-        Entry::Back { txn, block } => encode_back(txn, block, into),
-        Entry::Solo { txn, parent, block } => encode_solo(txn, parent, block, into),
-    }
-}
-
-// Writes a record's spelling behind the bytes, and into the frame, and leaves memory for so many bytes more.
-fn write(
-    bytes: &mut Vec<u8>,
-    frame: &mut Frame,
-    given: Entry<'_>,
-    more: usize,
-) -> Result<(), OutOfMemory>
-    requires { CanBeSpelled (record_of given) }
-    ensures ok { OnOk result ((bytes.new.items ≡ bytes.old.items ++ spelling (record_of given.entry)) × (frame.new.body ≡ frame.old.body ++ spelling (record_of given.entry)) × HasMemory more (vec_len bytes.new) (vec_capacity bytes.new) frame.new) }
-    ensures room { HasMemory (length (spelling (record_of given.entry)) + more) (vec_len bytes.old) (vec_capacity bytes.old) frame.old → IsOk result }
-    ensures err { OnErr result ((bytes.new.items ≡ bytes.old.items) × (vec_len bytes.new ≡ vec_len bytes.old) × (frame.new.body ≡ frame.old.body) × (frame.new.records ≡ frame.old.records)) }
+    ensures all { IfOk result (λ sum. (sum ≡ all + length (spelling (record_of given.entry))) × HasMemory more sum frame.new) }
+    ensures body { OnOk result (frame.new.body ≡ frame.old.body ++ spelling (record_of given.entry)) }
     ensures records { OnOk result (frame.new.records ≡ one_more frame.old.records) }
-    ensures kept { OnErr result ((vec_capacity bytes.old ≤ vec_capacity bytes.new) × (frame.old.room ≤ frame.new.room)) }
+    ensures room { HasMemory (length (spelling (record_of given.entry)) + more) all frame.old → IsOk result }
+    ensures err { OnErr result ((frame.new.body ≡ frame.old.body) × (frame.new.records ≡ frame.old.records) × (frame.old.room ≤ frame.new.room)) }
 {
-    let from = bytes.len();
-    make_room(bytes, frame, size_of(given) as usize, more)?;
-    append(given, bytes).unwrap();
-    frame.add(&bytes[from..]).unwrap();
-    Ok(())
+    let size = entry_length(given);
+    make_room(all, frame, size, more)?;
+    frame.write(given).unwrap();
+    Ok(all + size)
 }
 
 impl Journal {
@@ -155,20 +92,13 @@ impl Journal {
         ensures { IfOk result (λ j. j ≡ record { since = []; taken = 0; promised = map.empty }) }
     {
         Ok(Journal {
-            bytes: Vec::new(alloc),
+            since: RecordsSince::new(),
             frame: Frame::new(alloc)?,
             count: 0,
             taken: 0,
+            bytes: 0,
             promises: Promises::new(alloc),
         })
-    }
-
-    /// The spellings of all records, one behind the other.
-    pub fn bytes(&self) -> &[u8]
-        ensures bytes { result.now ≡ body_bytes self.now.since }
-        ensures small { IsSmall self.now }
-    {
-        &self.bytes
     }
 
     /// How many records there are.
@@ -215,7 +145,7 @@ impl Journal {
         ensures err { OnErr result (self.new ≡ self.old) }
     {
         let all = self.promises.all_with(txn, bytes)?;
-        make_room(&mut self.bytes, &mut self.frame, 0, all)?;
+        make_room(self.bytes, &mut self.frame, 0, all)?;
         self.promises.set(txn, bytes)?;
         Ok(())
     }
@@ -230,8 +160,9 @@ impl Journal {
         ensures small { IsSmall self.new }
     {
         let promised = self.promises.all_behind(uses);
-        write(&mut self.bytes, &mut self.frame, given, promised)?;
+        self.bytes = write(self.bytes, &mut self.frame, given, promised)?;
         self.count += 1;
+        self.since = self.since.and(&given);
         self.promises.use_up(uses);
         Ok(())
     }

@@ -5,6 +5,7 @@ mod error;
 mod journal;
 pub mod laws;
 mod operation;
+mod past;
 mod promises;
 mod system;
 mod take_back;

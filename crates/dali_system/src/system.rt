@@ -27,6 +27,7 @@ ghost use Rattle.dali_system.specs.declared.error.SystemError.TheVariants.{OutOf
 
 use crate::error::{NotDead, SystemError};
 use crate::journal::Journal;
+use crate::past::RefusalsSince;
 use crate::undos;
 use dali_att::{Att, State};
 use dali_bytes::OutOfMemory;
@@ -49,9 +50,10 @@ const SOLO_ROOM: usize = 1017;
 
 const AUDIT_ROOM: u64 = 1 << 20;
 
-/// The log's end with the records since the load, the table of running transactions, the locks, and why the engine
+/// The log's end with the records that wait for a flush, the table of running transactions, the locks, and why the engine
 /// stopped, if it did: what a main-memory storage manager keeps beside its regions (Bohannon et al., TKDE 2003). Each
-/// call that logs leaves the system as the step of a run does that its clause names.
+/// call that logs leaves the system as the step of a run does that its clause names. Contracts see all records since the load,
+/// and all requests that were refused; neither takes memory.
 #[derive(Drop)]
 pub struct System {
     geometry: Geometry,
@@ -59,7 +61,7 @@ pub struct System {
     journal: Journal,
     table: Att<Pending>,
     locks: LockTable,
-    refusals: Vec<Refusal>,
+    refusals: RefusalsSince,
     end: u64,
     next: u64,
     limit: u64,
@@ -140,7 +142,7 @@ impl System {
             journal: Journal::new(alloc)?,
             table: Att::new(alloc),
             locks: LockTable::new(alloc),
-            refusals: Vec::new(alloc),
+            refusals: RefusalsSince::new(),
             end,
             next,
             limit,
@@ -192,13 +194,6 @@ impl System {
         self.stop
     }
 
-    /// The spellings of the records since the load, one behind the other.
-    pub fn logged(&self) -> &[u8]
-        ensures { result.now ≡ body_bytes self.now.state.since }
-    {
-        self.journal.bytes()
-    }
-
     /// The running transactions with what takes each of them back.
     pub fn table(&self) -> &Att<Pending>
         ensures table { result.now ≡ self.now.state.table }
@@ -230,7 +225,7 @@ impl System {
         Ok((txn, Receipt { number }))
     }
 
-    /// Asks for a key in a mode. A Busy answer is kept. Refused where the engine is stopped; it takes memory.
+    /// Asks for a key in a mode. Contracts see which requests were answered Busy. Refused where the engine is stopped; it takes memory.
     pub fn request(&mut self, txn: u64, key: u64, mode: Mode) -> Result<LockAnswer, SystemError>
         ensures answer { IfOk result (IsAnswer self.old.state.locks txn key mode) }
         ensures ok { IfOk result (λ answer. self.new ≡ record self.old { state = after_request self.old.state txn key mode answer }) }
@@ -240,10 +235,9 @@ impl System {
     {
         running(self.stop)?;
         let at = self.records();
-        self.refusals.reserve(1)?;
         let answer = self.locks.request(txn, key, mode)?;
         if let LockAnswer::Busy { holder } = answer {
-            self.refusals.push_reserved(Refusal {
+            self.refusals = self.refusals.and(&Refusal {
                 txn,
                 key,
                 mode,
@@ -481,13 +475,6 @@ impl System {
         ensures { result ≡ lock_of self.now.state txn key }
     {
         self.locks.holds(txn, key)
-    }
-
-    /// The requests that were refused since the load.
-    pub fn refusals(&self) -> &[Refusal]
-        ensures { result.now ≡ self.now.state.refusals }
-    {
-        &self.refusals
     }
 
     /// Sets the checkpoint's flag; false exactly where it was set.

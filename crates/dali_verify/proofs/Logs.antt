@@ -20,27 +20,6 @@ use Rattle.dali_verify.specs.Errors.{read_as}
 use Rattle.dali_verify.specs.Verified.{Spell, IsInFile, IsWholeLog}
 use Rattle.dali_verify.specs.declared.error.VerifyError.TheVariants as errors
 
--- ---- the records that wait
-parts : (t : ℕ) (since : List Record) → body_bytes since ≡ body_bytes (take t since) ++ body_bytes (drop t since)
-parts t since = ap body_bytes (sym (take-append-drop t since)) ∙ flat_map-append spelling (take t since) (drop t since)
-
-pub few_wait : (logged body : List ℕ) (t n : ℕ) (since : List Record) → logged ≡ body_bytes since → body ≡ body_bytes (drop t since) → n ≡ length body → n ≤ length logged
-few_wait logged body t n since all waits count = omega (arith, ap length all, ap length waits, ap length (parts t since), length-append (body_bytes (take t since)) (body_bytes (drop t since)), count)
-
-behind : (front rest : List ℕ) (n m : ℕ) → m ≡ length front → n ≡ length rest → take n (drop m (front ++ rest)) ≡ rest
-behind front rest n m at count = ap (λ (l : List ℕ). take n l) (drop_at front rest m (sym at)) ∙ take_all n rest (omega (arith, count))
-
-pub waits_behind : (logged body : List ℕ) (t n : ℕ) (since : List Record) → logged ≡ body_bytes since → body ≡ body_bytes (drop t since) → n ≡ length body
-    → take (length logged - (length logged - n)) (drop (length logged - n) logged) ≡ body_bytes (drop t since)
-waits_behind logged body t n since all waits count =
-    let front = body_bytes (take t since) in
-    let rest = body_bytes (drop t since) in
-    let whole : logged ≡ front ++ rest = all ∙ parts t since in
-    let long : length logged ≡ length front + length rest = ap length whole ∙ length-append front rest in
-    let here : length logged - n ≡ length front = omega (arith, long, ap length waits, count) in
-    let size : length logged - (length logged - n) ≡ length rest = omega (arith, long, ap length waits, count) in
-    ap (λ (l : List ℕ). take (length logged - (length logged - n)) (drop (length logged - n) l)) whole ∙ behind front rest (length logged - (length logged - n)) (length logged - n) here size
-
 -- ---- a log of fewer than two bytes
 abbrev pub ShortAs : Bool → List ℕ → Type 0
 ShortAs short log = (short ≡ true → length log < 2) × (short ≡ false → 2 ≤ length log)

@@ -144,20 +144,12 @@ fn read_file<V: Store>(alloc: Global, vault: &mut Vault<V>) -> Result<Vec<Record
     Ok(records)
 }
 
-// The spellings of the records that aren't flushed yet.
-fn waiting(system: &System) -> &[u8]
-    ensures { result.now ≡ body_bytes (drop system.now.state.taken system.now.state.since) }
-{
-    let logged = system.logged();
-    &logged[logged.len() - system.frame().len()..]
-}
-
-// Adds the records that wait to be flushed. A system logs records alone, so its own bytes spell some.
+// Adds the records that wait to be flushed. A system logs records alone, so the bytes of its frame spell some.
 fn add_waiting(alloc: Global, system: &System, records: &mut Vec<Record>) -> Result<(), VerifyError>
     ensures ok { OnOk result ((L : List Record) × Spell (body_bytes (drop system.now.state.taken system.now.state.since)) L × (records.new.items ≡ records.old.items ++ L)) }
     ensures memory { IfErr result (λ e. e ≡ errors.OutOfMemory) }
 {
-    match add_records(alloc, waiting(system), 0, records) {
+    match add_records(alloc, system.frame().body(), 0, records) {
         Ok(()) => Ok(()),
         Err(_) => Err(VerifyError::OutOfMemory),
     }

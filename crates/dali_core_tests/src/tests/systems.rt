@@ -8,7 +8,7 @@ use dali_geometry::Geometry;
 use dali_locks::{LockAnswer, Mode};
 use dali_record::{Answer, Call};
 use dali_region::Receipt;
-use dali_runs::{Cause, Refusal};
+use dali_runs::Cause;
 use dali_system::{NotDead, System, SystemError};
 use std::alloc::Global;
 use std::test::*;
@@ -65,21 +65,13 @@ fn two_clients(
 fn two_clients_and_one_key(rt: HostRuntime) -> Result<()> {
     let mut system = system_to(rt.alloc(), 1000).context("no system")?;
     let seen = two_clients(&mut system);
-    let refusal = Refusal {
-        txn: 6,
-        key: 7,
-        mode: Mode::Shared,
-        holder: 5,
-        at: 5,
-    };
     // two records that begin, with 9 bytes each, come first, and one that commits and one that ends come last
     let first = [2, 0, 0, 0, 0, 0, 0, 0, 5, 2, 0, 0, 0, 0, 0, 0, 0, 6];
     let last = [5, 0, 0, 0, 0, 0, 0, 0, 5, 6, 0, 0, 0, 0, 0, 0, 0, 5];
-    let logged = system.logged();
+    let logged = system.frame().body();
     assert!(rt;
         (
             seen,
-            system.refusals(),
             logged.starts_with(first.as_slice()),
             logged.ends_with(last.as_slice()),
             (system.records(), system.next(), system.end())
@@ -100,7 +92,6 @@ fn two_clients_and_one_key(rt: HostRuntime) -> Result<()> {
                 (Ok(Receipt { number: 7 }), None),
                 Ok(LockAnswer::Granted)
             ),
-            [refusal].as_slice(),
             true,
             true,
             (8, 7, 100 + logged.len() as u64)
@@ -223,7 +214,7 @@ fn a_client_dies(rt: HostRuntime) -> Result<()> {
 }
 
 // Records that wait and are taken as one batch, and one behind them.
-fn batches(alloc: Global) -> Option<((u64, usize), (usize, bool), (Begun, usize), (bool, usize))> {
+fn batches(alloc: Global) -> Option<((u64, usize), (usize, bool), (Begun, usize), (usize, u64))> {
     let mut system = system_to(alloc, 1_000_000)?;
     for _ in 0..10_000 {
         let _ = system.begin();
@@ -235,7 +226,7 @@ fn batches(alloc: Global) -> Option<((u64, usize), (usize, bool), (Begun, usize)
     let taken = (frame.len(), system.frame().is_empty());
     let next = (system.begin(), system.frame().len());
     system.flushed();
-    let flushed = (system.frame().is_empty(), system.logged().len());
+    let flushed = (system.frame().body().len(), system.end());
     Some((waiting, taken, next, flushed))
 }
 
@@ -248,7 +239,7 @@ fn many_records_in_a_batch(rt: HostRuntime) {
                 (90_100, 90_000),
                 (90_000, true),
                 (Ok((10_005, Receipt { number: 10_003 })), 9),
-                (true, 90_009)
+                (0, 90_109)
             ))
     );
 }

@@ -4,4 +4,4 @@ use Rattle.dali_system.proofs.Journals.{small_of}
 use Rattle.dali_system.proofs.journal.Journal.len.Goals as goal
 
 pub returns-clause-small : goal.returns-clause-small
-returns-clause-small c = subst IsSmall c.self.view_is (small_of _ _ _ _ c.self.inside.promises c.self.invariant.0)
+returns-clause-small c = subst IsSmall c.self.view_is (small_of _ _ _ _ _ c.self.inside.promises c.self.invariant.0)

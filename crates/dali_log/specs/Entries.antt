@@ -1,9 +1,9 @@
--- What a journal is given to write.
+-- What is written behind the records of a batch.
 --     record_of e              the record
 use Rattle.dali_record.specs.declared.records.Record.{Record}
 use Rattle.dali_record.specs.declared.records.Record.TheVariants.{Forward, Back as BackRecord, Solo as SoloRecord}
-use Rattle.dali_system.specs.declared.journal.Entry.{Entry}
-use Rattle.dali_system.specs.declared.journal.Entry.TheVariants.{Whole, Op, Back, Solo}
+use Rattle.dali_log.specs.declared.entry.Entry.{Entry}
+use Rattle.dali_log.specs.declared.entry.Entry.TheVariants.{Whole, Op, Back, Solo}
 
 abbrev pub record_of : Entry → Record
 record_of (Whole r) = r.now
