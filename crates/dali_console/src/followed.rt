@@ -54,6 +54,10 @@ impl<V: Store, E: Print + IsTerminal + Drop> Store for Followed<'_, V, E> {
 
     ghost cuts = { λ f. V.cuts f.store };
 
+    ghost droppable = { λ f. V.droppable f.store };
+
+    ghost dropped_to = { λ f. V.dropped_to f.store };
+
     ghost reads_now = { λ f. V.reads_now f.store };
 
     ghost no_longer = { λ f. V.no_longer f.store };
@@ -92,5 +96,13 @@ impl<V: Store, E: Print + IsTerminal + Drop> Store for Followed<'_, V, E> {
 
     fn cut(&mut self, choice: u32) -> Result<(), StoreFault> {
         self.store.cut(choice)
+    }
+
+    fn drop_log(&mut self, below: u64) -> Result<u64, StoreFault> {
+        self.store.drop_log(below)
+    }
+
+    fn first_kept(&mut self) -> Result<u64, StoreFault> {
+        self.store.first_kept()
     }
 }

@@ -260,6 +260,10 @@ impl<F: OpenFile + FileExt + LockFile + Drop, P: Place<F> + Drop> Store for File
 
     ghost cuts = { λ s choice. None };
 
+    ghost droppable = { λ s below. 0 };
+
+    ghost dropped_to = { λ s. 0 };
+
     ghost reads_now = { λ s. tt };
 
     ghost no_longer = { λ s. tt };
@@ -290,5 +294,13 @@ impl<F: OpenFile + FileExt + LockFile + Drop, P: Place<F> + Drop> Store for File
 
     fn cut(&mut self, choice: u32) -> Result<(), StoreFault> {
         self.cut(choice)
+    }
+
+    fn drop_log(&mut self, _below: u64) -> Result<u64, StoreFault> {
+        Ok(0) // The log is one file.
+    }
+
+    fn first_kept(&mut self) -> Result<u64, StoreFault> {
+        Ok(0)
     }
 }

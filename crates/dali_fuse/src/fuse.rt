@@ -1,7 +1,8 @@
 //! A store that passes so many calls on, and fails those that follow.
-ghost use Rattle.std.specs.Prelude.{◌≡◌, ◌≢◌, ◌≤◌, ◌<◌, ◌+◌, ◌^◌, ◌↔◌, Option, Some, None, List, ℕ, length, IfOk, IsErr, OnOk, OnErr, IfSome, is_some, IsTrue};
+ghost use Rattle.std.specs.Prelude.{◌≡◌, ◌≢◌, ◌≤◌, ◌<◌, ◌+◌, ◌^◌, ◌↔◌, Option, Some, None, List, ℕ, length, max, IfOk, IsErr, OnOk, OnErr, IfSome, is_some, IsTrue};
 ghost use Rattle.dali_store.specs.Calls.{one_less};
 ghost use Rattle.dali_store.specs.Faults.{HasCause};
+ghost use Rattle.dali_store.specs.Drops.{DroppedIn, DroppedTold, IsIdle, IsSynced, After, LogStays};
 ghost use Rattle.dali_store.specs.Store.{Files, file_of, Only, Follows, TornIn, TornTold, HoldsIn, ReadsAt, Elapses};
 ghost use Rattle.dali_fuse.specs.Fuse.{Burns, PassesOn, inner, passes_of, failed_by, failed_of, forgetful};
 ghost use Rattle.dali_store.specs.Faults.{one_more};
@@ -120,6 +121,10 @@ impl<V: Store> Store for Fuse<V> {
 
     ghost cuts = { λ f. V.cuts f.store };
 
+    ghost droppable = { λ f. V.droppable f.store };
+
+    ghost dropped_to = { λ f. V.dropped_to f.store };
+
     ghost reads_now = { λ f. V.reads_now f.store };
 
     ghost no_longer = { λ f. V.no_longer f.store };
@@ -140,6 +145,8 @@ impl<V: Store> Store for Fuse<V> {
         ensures crash { (c : Files) → V.may_leave (inner self.new) c → V.may_leave (inner self.old) c }
         ensures time { Elapses (V.moment (inner self.old)) (V.moment (inner self.new)) (V.left_since (inner self.old)) (V.left_since (inner self.new)) (V.may_leave (inner self.new)) }
         ensures cause { HasCause (V.faults (inner self.old) + failed_of self.old) (V.faults (inner self.new) + failed_of self.new) result }
+        ensures droppable { V.droppable (inner self.new) ≡ V.droppable (inner self.old) }
+        ensures dropped { V.dropped_to (inner self.new) ≡ V.dropped_to (inner self.old) }
     {
         self.burn()?;
         self.store.length(file)
@@ -153,6 +160,8 @@ impl<V: Store> Store for Fuse<V> {
         ensures crash { (c : Files) → V.may_leave (inner self.new) c → V.may_leave (inner self.old) c }
         ensures time { Elapses (V.moment (inner self.old)) (V.moment (inner self.new)) (V.left_since (inner self.old)) (V.left_since (inner self.new)) (V.may_leave (inner self.new)) }
         ensures cause { HasCause (V.faults (inner self.old) + failed_of self.old) (V.faults (inner self.new) + failed_of self.new) result }
+        ensures droppable { V.droppable (inner self.new) ≡ V.droppable (inner self.old) }
+        ensures dropped { V.dropped_to (inner self.new) ≡ V.dropped_to (inner self.old) }
     {
         self.burn()?;
         self.store.read_at(file, at, into)
@@ -167,6 +176,8 @@ impl<V: Store> Store for Fuse<V> {
         ensures crash { Follows (TornIn file at (length bytes.now)) (V.may_leave (inner self.old)) (V.may_leave (inner self.new)) }
         ensures time { Elapses (V.moment (inner self.old)) (V.moment (inner self.new)) (V.left_since (inner self.old)) (V.left_since (inner self.new)) (V.may_leave (inner self.new)) }
         ensures cause { HasCause (V.faults (inner self.old) + failed_of self.old) (V.faults (inner self.new) + failed_of self.new) result }
+        ensures droppable { IfSome (V.told (inner self.old)) (λ fs. LogStays (length fs.log) (V.droppable (inner self.old)) (V.droppable (inner self.new))) }
+        ensures dropped { V.dropped_to (inner self.new) ≡ V.dropped_to (inner self.old) }
     {
         self.burn()?;
         self.store.write_at(file, at, bytes)
@@ -179,6 +190,8 @@ impl<V: Store> Store for Fuse<V> {
         ensures crash { (c : Files) → V.may_leave (inner self.new) c → V.may_leave (inner self.old) c }
         ensures time { Elapses (V.moment (inner self.old)) (V.moment (inner self.new)) (V.left_since (inner self.old)) (V.left_since (inner self.new)) (V.may_leave (inner self.new)) }
         ensures cause { HasCause (V.faults (inner self.old) + failed_of self.old) (V.faults (inner self.new) + failed_of self.new) result }
+        ensures droppable { V.droppable (inner self.new) ≡ V.droppable (inner self.old) }
+        ensures dropped { V.dropped_to (inner self.new) ≡ V.dropped_to (inner self.old) }
     {
         self.burn()?;
         self.store.sync(file)
@@ -196,5 +209,39 @@ impl<V: Store> Store for Fuse<V> {
     {
         self.use_up();
         self.store.cut(choice)
+    }
+
+    fn drop_log(&mut self, below: u64) -> Result<u64, StoreFault>
+        requires { IfSome (V.told (inner self.old)) (λ fs. below < length fs.log) }
+        ensures burns { Burns V.faults self.old self.new result }
+        ensures count { IfOk result (λ n. n ≡ V.droppable (inner self.old) below) }
+        ensures none_left { OnOk result (V.droppable (inner self.new) below ≡ 0) }
+        ensures fewer { (place : ℕ) → V.droppable (inner self.new) place ≤ V.droppable (inner self.old) place }
+        ensures reaches { IfOk result (λ n. n ≤ V.dropped_to (inner self.new)) }
+        ensures further { V.dropped_to (inner self.old) ≤ V.dropped_to (inner self.new) }
+        ensures within { V.dropped_to (inner self.new) ≤ max (V.dropped_to (inner self.old)) below }
+        ensures idle { V.droppable (inner self.old) below ≡ 0 → IsIdle (V.told (inner self.old)) (V.told (inner self.new)) (V.may_leave (inner self.old)) (V.may_leave (inner self.new)) }
+        ensures durable { OnOk result (0 < V.droppable (inner self.old) below → IsSynced FileName.Log (V.told (inner self.new)) (V.may_leave (inner self.new))) }
+        ensures dropped { DroppedTold below (V.told (inner self.old)) (V.told (inner self.new)) }
+        ensures crash { Follows (DroppedIn below) (V.may_leave (inner self.old)) (V.may_leave (inner self.new)) }
+        ensures time { Elapses (V.moment (inner self.old)) (V.moment (inner self.new)) (V.left_since (inner self.old)) (V.left_since (inner self.new)) (After (DroppedIn below) (V.may_leave (inner self.old))) }
+        ensures cause { HasCause (V.faults (inner self.old) + failed_of self.old) (V.faults (inner self.new) + failed_of self.new) result }
+    {
+        self.burn()?;
+        self.store.drop_log(below)
+    }
+
+    fn first_kept(&mut self) -> Result<u64, StoreFault>
+        ensures burns { Burns V.faults self.old self.new result }
+        ensures place { IfOk result (λ n. n ≡ V.dropped_to (inner self.old)) }
+        ensures told { V.told (inner self.new) ≡ V.told (inner self.old) }
+        ensures crash { (c : Files) → V.may_leave (inner self.new) c → V.may_leave (inner self.old) c }
+        ensures time { Elapses (V.moment (inner self.old)) (V.moment (inner self.new)) (V.left_since (inner self.old)) (V.left_since (inner self.new)) (V.may_leave (inner self.new)) }
+        ensures cause { HasCause (V.faults (inner self.old) + failed_of self.old) (V.faults (inner self.new) + failed_of self.new) result }
+        ensures droppable { V.droppable (inner self.new) ≡ V.droppable (inner self.old) }
+        ensures dropped { V.dropped_to (inner self.new) ≡ V.dropped_to (inner self.old) }
+    {
+        self.burn()?;
+        self.store.first_kept()
     }
 }

@@ -12,12 +12,14 @@ pub enum CallKind {
     Write,
     Sync,
     Cut,
+    DropLog,
+    FirstKept,
 }
 
 /// What is told of the calls of a store.
 pub trait Hook {
-    /// A call is about to be made. `file` is None for a cut alone. `at` and `length` are the place and the number of bytes
-    /// of a read or a write, and 0 for other calls.
+    /// A call is about to be made. `file` is None for a cut alone. `at` is the place of a read or a write, or below which
+    /// the log is dropped, and `length` the number of bytes of a read or a write. Both are 0 for other calls.
     fn called(&self, kind: CallKind, file: Option<FileName>, at: u64, length: u64);
 }
 
@@ -53,6 +55,10 @@ impl<V: Store, H: Hook> Store for Watch<V, H> {
     ghost lets_pass = { λ w. V.lets_pass w.store };
 
     ghost cuts = { λ w. V.cuts w.store };
+
+    ghost droppable = { λ w. V.droppable w.store };
+
+    ghost dropped_to = { λ w. V.dropped_to w.store };
 
     ghost reads_now = { λ w. V.reads_now w.store };
 
@@ -91,5 +97,17 @@ impl<V: Store, H: Hook> Store for Watch<V, H> {
     fn cut(&mut self, choice: u32) -> Result<(), StoreFault> {
         self.hook.called(CallKind::Cut, None, 0, 0);
         self.store.cut(choice)
+    }
+
+    fn drop_log(&mut self, below: u64) -> Result<u64, StoreFault> {
+        self.hook
+            .called(CallKind::DropLog, Some(FileName::Log), below, 0);
+        self.store.drop_log(below)
+    }
+
+    fn first_kept(&mut self) -> Result<u64, StoreFault> {
+        self.hook
+            .called(CallKind::FirstKept, Some(FileName::Log), 0, 0);
+        self.store.first_kept()
     }
 }

@@ -25,6 +25,7 @@ const LIMIT: u64 = 1 << 62;
 /// The calls with the given numbers, from 0, fail and change nothing. A write that finds no memory fails too, and
 /// changes nothing. Syncs and cuts take no memory. The store keeps each write with its bytes, each sync and each
 /// cut that changed anything, since what a crash at an earlier moment might have left is determined by them.
+/// Its log is in one piece: `drop_log` and `first_kept` answer 0, and have no number.
 #[derive(Drop)]
 pub struct MemoryStore {
     alloc: Global,
@@ -321,6 +322,10 @@ impl Store for MemoryStore {
 
     ghost cuts = { λ m choice. Some (cut_files choice m) };
 
+    ghost droppable = { λ m below. 0 };
+
+    ghost dropped_to = { λ m. 0 };
+
     ghost reads_now = { λ m. seen_crash (disks m.history) (sound m.history) };
 
     ghost no_longer = { λ m. no_longer_law (disks m.history) };
@@ -351,6 +356,14 @@ impl Store for MemoryStore {
 
     fn cut(&mut self, choice: u32) -> Result<(), StoreFault> {
         self.cut(choice)
+    }
+
+    fn drop_log(&mut self, _below: u64) -> Result<u64, StoreFault> {
+        Ok(0) // The log is kept in one piece.
+    }
+
+    fn first_kept(&mut self) -> Result<u64, StoreFault> {
+        Ok(0)
     }
 }
 

@@ -1,4 +1,5 @@
 pub mod Calls
 pub mod Causes
+pub mod Drops
 pub mod Moments
 pub mod OneFile

@@ -61,7 +61,7 @@ module _ {D : Type 0} (moment : D → ℕ) (left_since : D → ℕ → Files →
   joined old mid new P first second = joins old mid new P P P first second (λ c p. p) (λ c p. p)
 
   -- a run of any length
-  pub a_run_goes_on : (may_leave : D → Files → Type 0) (P : Files → Type 0) → ARunGoesOn moment left_since may_leave P
-  a_run_goes_on may_leave P start old [] new so_far same = subst (λ (d : D). LeavesOnly moment left_since start d P) same so_far
-  a_run_goes_on may_leave P start old (mid ∷ states) new so_far run =
-      a_run_goes_on may_leave P start mid states new (goes_on start old mid P (may_leave mid) so_far run.0.time run.0.leaves) run.1
+  pub a_run_goes_on : (P : Files → Type 0) → ARunGoesOn moment left_since P
+  a_run_goes_on P start old [] new so_far same = subst (λ (d : D). LeavesOnly moment left_since start d P) same so_far
+  a_run_goes_on P start old (mid ∷ states) new so_far run =
+      a_run_goes_on P start mid states new (goes_on start old mid P P so_far run.0 (λ c p. p)) run.1

@@ -6,7 +6,7 @@ ghost use Rattle.dali_store.specs.Store.{Files};
 use crate::Store;
 
 /// A crash at any moment of a run of calls. Let each crash since the start leave files that pass some test, and let a
-/// crash after each further call leave only such files. Then each crash since the start still does.
+/// crash within each further call and after it leave only such files. Then each crash since the start still does.
 pub fn runs_go_on<V: Store>()
-    ensures { (test : Files → Bool) → ARunGoesOn V.moment V.left_since V.may_leave (λ c. IsTrue (test c)) }
+    ensures { (test : Files → Bool) → ARunGoesOn V.moment V.left_since (λ c. IsTrue (test c)) }
 {}

@@ -1,7 +1,8 @@
 //! The trait of a store of four files.
-ghost use Rattle.std.specs.Prelude.{◌≡◌, ◌≤◌, ◌<◌, ◌^◌, Option, List, ℕ, length, IfOk, OnOk, IfSome, is_some};
+ghost use Rattle.std.specs.Prelude.{◌≡◌, ◌≤◌, ◌<◌, ◌^◌, Option, List, ℕ, length, max, IfOk, OnOk, IfSome, is_some};
 ghost use Rattle.dali_store.specs.Calls.{one_less};
 ghost use Rattle.dali_store.specs.Faults.{HasCause};
+ghost use Rattle.dali_store.specs.Drops.{DroppedIn, DroppedTold, IsIdle, IsSynced, After, LogStays};
 ghost use Rattle.dali_store.specs.Store.{Files, file_of, NoLonger, Only, Follows, TornIn, TornTold, HoldsIn, ReadsAt, Elapses};
 
 use std::fmt;
@@ -59,6 +60,9 @@ pub struct StoreFault;
 /// count, which stands still at 0. Where it stood above four, a clause that four are fewer says that just four calls
 /// were made, and one of at most four that no more were made. Else, and of a store that counts nothing, neither says
 /// how many.
+///
+/// A store may keep its log in segments, and drop those before a place. Dropped bytes read as 00 and stay part of the
+/// log, whose length and whose first 64 bytes no drop changes. A store that keeps its log in one piece drops nothing.
 pub trait Store {
     /// What reads of the four files give, where the store tells it.
     ghost told: { Self → Option Files };
@@ -82,6 +86,12 @@ pub trait Store {
     /// What a cut with this choice makes of the four files, where the store tells what its reads give.
     ghost cuts: { Self → ℕ → Option Files };
 
+    /// How many bytes a drop of the log below a place would drop now: none of a store that keeps its log in one piece.
+    ghost droppable: { Self → ℕ → ℕ };
+
+    /// The place from which on no byte of the log is dropped: the end of the last part that is, or 0.
+    ghost dropped_to: { Self → ℕ };
+
     /// The length of a file in bytes. A length of 2^62 or more counts as a fault. Takes no memory.
     fn length(&mut self, file: FileName) -> Result<u64, StoreFault>
         ensures bound { IfOk result (λ n. n < 2 ^ 62) }
@@ -90,7 +100,9 @@ pub trait Store {
         ensures crash { (c : Files) → may_leave self.new c → may_leave self.old c }
         ensures time { Elapses (moment self.old) (moment self.new) (left_since self.old) (left_since self.new) (may_leave self.new) }
         ensures cause { HasCause (faults self.old) (faults self.new) result }
-        ensures calls { lets_pass self.new ≡ one_less (lets_pass self.old) };
+        ensures calls { lets_pass self.new ≡ one_less (lets_pass self.old) }
+        ensures droppable { droppable self.new ≡ droppable self.old }
+        ensures dropped { dropped_to self.new ≡ dropped_to self.old };
 
     /// Reads from a place on into the front of a buffer, and answers how many bytes. Fewer than asked come only at the end.
     /// After a fault the buffer may hold anything. Takes no memory.
@@ -101,7 +113,9 @@ pub trait Store {
         ensures crash { (c : Files) → may_leave self.new c → may_leave self.old c }
         ensures time { Elapses (moment self.old) (moment self.new) (left_since self.old) (left_since self.new) (may_leave self.new) }
         ensures cause { HasCause (faults self.old) (faults self.new) result }
-        ensures calls { lets_pass self.new ≡ one_less (lets_pass self.old) };
+        ensures calls { lets_pass self.new ≡ one_less (lets_pass self.old) }
+        ensures droppable { droppable self.new ≡ droppable self.old }
+        ensures dropped { dropped_to self.new ≡ dropped_to self.old };
 
     /// Writes over what is there, and past the end. Until a sync, a crash may leave any bytes in the range.
     /// After a fault any part of it may be written. It may take memory.
@@ -113,7 +127,9 @@ pub trait Store {
         ensures crash { Follows (TornIn file at (length bytes.now)) (may_leave self.old) (may_leave self.new) }
         ensures time { Elapses (moment self.old) (moment self.new) (left_since self.old) (left_since self.new) (may_leave self.new) }
         ensures cause { HasCause (faults self.old) (faults self.new) result }
-        ensures calls { lets_pass self.new ≡ one_less (lets_pass self.old) };
+        ensures calls { lets_pass self.new ≡ one_less (lets_pass self.old) }
+        ensures droppable { IfSome (told self.old) (λ fs. LogStays (length fs.log) (droppable self.old) (droppable self.new)) }
+        ensures dropped { dropped_to self.new ≡ dropped_to self.old };
 
     /// Keeps what was written to a file: after Ok a crash leaves of it what reads give. Takes no memory.
     fn sync(&mut self, file: FileName) -> Result<(), StoreFault>
@@ -122,7 +138,9 @@ pub trait Store {
         ensures crash { (c : Files) → may_leave self.new c → may_leave self.old c }
         ensures time { Elapses (moment self.old) (moment self.new) (left_since self.old) (left_since self.new) (may_leave self.new) }
         ensures cause { HasCause (faults self.old) (faults self.new) result }
-        ensures calls { lets_pass self.new ≡ one_less (lets_pass self.old) };
+        ensures calls { lets_pass self.new ≡ one_less (lets_pass self.old) }
+        ensures droppable { droppable self.new ≡ droppable self.old }
+        ensures dropped { dropped_to self.new ≡ dropped_to self.old };
 
     /// A crash: afterwards reads give one of the things that a crash might have left, and a crash leaves just this.
     /// Which one, the store and `choice` determine. Takes no memory.
@@ -135,6 +153,38 @@ pub trait Store {
         ensures time { Elapses (moment self.old) (moment self.new) (left_since self.old) (left_since self.new) (may_leave self.new) }
         ensures cause { HasCause (faults self.old) (faults self.new) result }
         ensures calls { lets_pass self.new ≡ one_less (lets_pass self.old) };
+
+    /// Drops the segments of the log that end at a place or before it, all but the first one, and answers how many bytes
+    /// they had: none where the log is kept in one piece. The place is to be below the log's length. What is dropped
+    /// reads as 00. After Ok nothing is left to drop there, and where something was dropped, a crash leaves of the log
+    /// what reads give. A crash inside the call leaves each byte below the place as it was or dropped, and so may a fault.
+    /// Takes no memory.
+    fn drop_log(&mut self, below: u64) -> Result<u64, StoreFault>
+        requires { IfSome (told self.old) (λ fs. below < length fs.log) }
+        ensures count { IfOk result (λ n. n ≡ droppable self.old below) }
+        ensures none_left { OnOk result (droppable self.new below ≡ 0) }
+        ensures fewer { (place : ℕ) → droppable self.new place ≤ droppable self.old place }
+        ensures reaches { IfOk result (λ n. n ≤ dropped_to self.new) }
+        ensures further { dropped_to self.old ≤ dropped_to self.new }
+        ensures within { dropped_to self.new ≤ max (dropped_to self.old) below }
+        ensures idle { droppable self.old below ≡ 0 → IsIdle (told self.old) (told self.new) (may_leave self.old) (may_leave self.new) }
+        ensures durable { OnOk result (0 < droppable self.old below → IsSynced FileName.Log (told self.new) (may_leave self.new)) }
+        ensures dropped { DroppedTold below (told self.old) (told self.new) }
+        ensures crash { Follows (DroppedIn below) (may_leave self.old) (may_leave self.new) }
+        ensures time { Elapses (moment self.old) (moment self.new) (left_since self.old) (left_since self.new) (After (DroppedIn below) (may_leave self.old)) }
+        ensures cause { HasCause (faults self.old) (faults self.new) result }
+        ensures calls { lets_pass self.new ≡ one_less (lets_pass self.old) };
+
+    /// The place from which on no byte of the log is dropped: 0 where none is. Takes no memory.
+    fn first_kept(&mut self) -> Result<u64, StoreFault>
+        ensures place { IfOk result (λ n. n ≡ dropped_to self.old) }
+        ensures told { told self.new ≡ told self.old }
+        ensures crash { (c : Files) → may_leave self.new c → may_leave self.old c }
+        ensures time { Elapses (moment self.old) (moment self.new) (left_since self.old) (left_since self.new) (may_leave self.new) }
+        ensures cause { HasCause (faults self.old) (faults self.new) result }
+        ensures calls { lets_pass self.new ≡ one_less (lets_pass self.old) }
+        ensures droppable { droppable self.new ≡ droppable self.old }
+        ensures dropped { dropped_to self.new ≡ dropped_to self.old };
 
     /// The files as they read are one of the things that a crash may leave.
     ghost reads_now: { (s : Self) → IfSome (told s) (λ fs. may_leave s fs) };

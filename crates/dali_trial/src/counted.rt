@@ -76,6 +76,10 @@ impl<V: Store> Store for Counted<V> {
 
     ghost cuts = { λ c. V.cuts c.inner };
 
+    ghost droppable = { λ c. V.droppable c.inner };
+
+    ghost dropped_to = { λ c. V.dropped_to c.inner };
+
     ghost reads_now = { λ c. V.reads_now c.inner };
 
     ghost no_longer = { λ c. V.no_longer c.inner };
@@ -111,5 +115,15 @@ impl<V: Store> Store for Counted<V> {
     fn cut(&mut self, choice: u32) -> Result<(), StoreFault> {
         self.count();
         self.inner.cut(choice)
+    }
+
+    fn drop_log(&mut self, below: u64) -> Result<u64, StoreFault> {
+        self.count();
+        self.inner.drop_log(below)
+    }
+
+    fn first_kept(&mut self) -> Result<u64, StoreFault> {
+        self.count();
+        self.inner.first_kept()
     }
 }

@@ -1,6 +1,6 @@
 //! What real files keep, when they can't be opened, and what a store for reading leaves alone.
 use dali_filestore::{Access, Failure, FileStore};
-use dali_store::{FileName, StoreFault};
+use dali_store::{FileName, Store, StoreFault};
 use std::fs;
 use std::test::Fail;
 
@@ -22,6 +22,8 @@ fn files_keep_what_was_written(rt: HostRuntime) -> Result<(), Fail> {
         store.sync(file)?;
     }
     store.cut(1)?;
+    let dropped = (store.drop_log(3), store.first_kept());
+    assert_eq!(rt; dropped, (Ok(0), Ok(0)));
     drop(store);
 
     let mut store = FileStore::reading_folder(&rt, "dali_files");

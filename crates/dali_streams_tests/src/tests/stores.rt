@@ -203,3 +203,51 @@ fn a_hook_is_told_before_the_call(rt: HostRuntime) -> Result<(), Fail> {
     assert!(rt; told == wanted && works && order.get() == 12121212121212121212);
     Ok(())
 }
+
+// What a drop of the log below its last byte answers, and the place from which on the log is kept then.
+fn drops<V: Store>(store: &mut V) -> Result<(u64, u64), StoreFault> {
+    let length = store.length(FileName::Log)?;
+    if length == 0 {
+        return Err(StoreFault);
+    }
+    let dropped = store.drop_log(length - 1)?;
+    Ok((dropped, store.first_kept()?))
+}
+
+// The same through a fuse that passes so many calls on, and what was told last of these.
+fn dropped_through(
+    alloc: Global,
+    passes: u64,
+) -> Result<(Result<(u64, u64), StoreFault>, Told), AllocError> {
+    let order = Cell::new(0);
+    let last = Cell::new((CallKind::Cut, None, 0, 0));
+    let files = [
+        vec![in alloc; 8, 9]?,
+        Vec::new(alloc),
+        Vec::new(alloc),
+        Vec::new(alloc),
+    ];
+    let store = MemoryStore::with(files, Vec::new(alloc));
+    let hook = Recorder {
+        number: 1,
+        order: &order,
+        last: &last,
+    };
+    let mut store = Watch::new(Fuse::new(store, Some(passes)), hook);
+    let dropped = drops(&mut store);
+    Ok((dropped, last.get()))
+}
+
+#[test]
+fn a_log_in_one_piece_is_kept_whole(rt: HostRuntime) -> Result<(), Fail> {
+    let alloc = rt.alloc();
+    let log = Some(FileName::Log);
+    for (passes, dropped, told) in [
+        (1, Err(StoreFault), (CallKind::DropLog, log, 1, 0)),
+        (2, Err(StoreFault), (CallKind::FirstKept, log, 0, 0)),
+        (3, Ok((0, 0)), (CallKind::FirstKept, log, 0, 0)),
+    ] {
+        assert!(rt; dropped_through(alloc, passes)? == (dropped, told));
+    }
+    Ok(())
+}
