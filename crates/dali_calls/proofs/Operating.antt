@@ -1,5 +1,5 @@
 -- The steps of an operation on its region, and its words, written one after another.
-use Rattle.std.proofs.Common.{◌≡◌, ◌≢◌, ℕ, ◌+◌, ◌-◌, ◌<◌, Bool, true, false, List, [], ◌∷◌, ◌++◌, Option, Some, None, IsSome, IsSomeAnd, IfSome, refl, sym, ap, subst, ◌∙◌, length, arith, slice_get, slice_set}
+use Rattle.std.proofs.Common.{◌≡◌, ◌≢◌, ℕ, ◌<◌, Bool, true, false, List, [], ◌∷◌, ◌++◌, Option, Some, None, IsSome, IsSomeAnd, refl, sym, ap, subst, ◌∙◌, slice_get, slice_set}
 use Rattle.std.specs.Prelude.{◌^◌, ◌==◌}
 use Rattle.std.proofs.lemmas.Bool.Decides.{Decides-eqb}
 use Rattle.dali_lists.proofs.Lists.{get_set, get_set_other}
@@ -10,14 +10,9 @@ use Rattle.dali_runs.specs.State.{SystemState, state_of, hold_in}
 use Rattle.dali_runs.specs.Regions.{RegionStep, Latch, NoteReads, Update, TakeBack, Poke, Check, Die, Clean, IsOpen, MayChange, region_after, is_alive, IsAlone}
 use Rattle.dali_runs.specs.Courses.{Step, OnRegion}
 use Rattle.dali_system.specs.declared.operation.Operation.{Operation}
-use Rattle.dali_system.specs.UnderWay.{IsUnderWay, OneIsUnderWay, IsUpdated}
+use Rattle.dali_system.specs.UnderWay.{IsUnderWay, IsUpdated}
 use Rattle.dali_system.proofs.UnderWays.{IsSameWay}
 use Rattle.dali_calls.specs.Operating.{IsHeldBy, IsOwn, Goes, AreUpdates, AreWritten}
-
--- how many words are left
-abbrev pub words_left : Option Operation → ℕ
-words_left None = 0
-words_left (Some o) = length o.block.after - o.taken
 
 -- ---- who holds the region
 live_in : (t : ℕ) (o : Option Hold) → IsSomeAnd o (λ h. (h.txn ≡ t) × (h.dead ≡ false)) → IsSomeAnd o (λ h. h.dead ≡ false)
@@ -73,13 +68,6 @@ still_same None b c p q = tt
 still_same (Some o) None c p q = absurd p
 still_same (Some o) (Some b) None p q = absurd q
 still_same (Some o) (Some b) (Some c) p q = (q.0 ∙ p.0, q.1 ∙ p.1)
-
-pub fewer_left : (a b : Option Operation) (g h : RegionState) → OneIsUnderWay a g → OneIsUnderWay b h → IsSameWay a b → IfSome a (λ o. IsSomeAnd b (λ p. p.taken ≡ o.taken + 1)) → words_left b < words_left a
-fewer_left None b g h w v s t = absurd w
-fewer_left (Some a) None g h w v s t = absurd v
-fewer_left (Some a) (Some b) g h w v s t =
-    let same : length b.block.after ≡ length a.block.after = ap (λ (x : Block). length x.after) s.1 in
-    omega (arith, same, t, w.count, v.count)
 
 -- ---- the region from its latch on
 pub opened_by : (t : ℕ) (b : Block) (g g1 g2 : RegionState) → g.hold ≡ None → b.read < 2 ^ 64 → g1 ≡ with_reads b.read (latched t g) → AreWritten g1 g2 → (xs : List RegionStep) × Goes t g xs g2

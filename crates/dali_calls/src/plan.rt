@@ -13,7 +13,7 @@ ghost use Rattle.dali_runs.specs.Steps.{op_logged, back_logged, done_logged};
 ghost use Rattle.dali_runs.specs.Keeps.{HasRoom};
 ghost use Rattle.dali_runs.specs.Regions.{IsOpen};
 ghost use Rattle.dali_system.specs.Refused.{refusal};
-ghost use Rattle.dali_system.specs.UnderWay.{IsUnderWay, OneIsUnderWay, WritesNext};
+ghost use Rattle.dali_system.specs.UnderWay.{IsUnderWay, OneIsUnderWay, WritesNext, all_written};
 ghost use Rattle.dali_system.specs.Receipts.{GivesReceipt};
 ghost use Rattle.dali_system.specs.declared.error.SystemError.TheVariants.{OutOfMemory as Memory};
 ghost use Rattle.dali_system.specs.declared.want.Want.TheVariants.{Done as AnswerIsNext};
@@ -134,6 +134,14 @@ impl Plan {
         ensures { result ≡ is_some self.now.operation }
     {
         self.operation.is_open()
+    }
+
+    /// Whether an operation is open, all of whose words are written: then `commit` logs its block. So who gives up the
+    /// region between two words need not lock it once more to learn that none is left.
+    pub fn is_written(&self) -> bool
+        ensures { result ≡ all_written self.now.operation }
+    {
+        self.operation.is_written()
     }
 
     /// The key of its call, and the mode in which the transaction is to hold it: alone, unless the call is a get.

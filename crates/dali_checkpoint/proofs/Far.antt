@@ -26,10 +26,10 @@ use Rattle.dali_core.specs.Steps.Said.{TornFrom, HasWritten}
 use Rattle.dali_checkpoint.specs.Kept.{Checkpointed, side_in}
 use Rattle.dali_checkpoint.specs.Done.{Reaches}
 use Rattle.dali_checkpoint.specs.Running.{IsCopying}
-use Rattle.dali_checkpoint.specs.Runs.{is_first_dirty, run_at, change}
-use Rattle.dali_checkpoint.specs.Laws.{WentOver, copy_steps, skip_steps, RunGoes, RunSkips}
+use Rattle.dali_checkpoint.specs.Runs.{is_first_dirty, AreNext, words_of, run_at, change}
+use Rattle.dali_checkpoint.specs.Laws.{WentOver, copy_steps, skip_steps, RunGoes, RunSkips, WordsGo, WordsSkip}
 use Rattle.dali_checkpoint.proofs.Calls.{runs_on_log, copy_goes_on, skip_goes_on}
-use Rattle.dali_checkpoint.proofs.Pieces.{AreNext, change_none, change_first, run_next, run_length, run_some, run_clean}
+use Rattle.dali_checkpoint.proofs.Pieces.{change_none, change_first, run_next, run_length, run_some, run_clean}
 use Rattle.dali_checkpoint.proofs.Splits.{held_between, held_first, held_rest, held_inside, torn_between, torn_in_split}
 
 -- ---- stores with one more between
@@ -117,7 +117,7 @@ abbrev bytes_of : List RegionState → List ℕ
 bytes_of run = flat_map (λ (g : RegionState). words_bytes g.back) run
 
 run_far : {V : Type 0} (means : Ghosts V) (s : Start) (B : List (List Record)) (p : Point) (gs : List RegionState) (y : SystemState) (v w : Vaulted V) (c : Checkpointed) (h : Head) (g : RegionState) (rest : List RegionState)
-    → IsCopying means s B p gs y v c h → AreNext (side_in c) gs c.copied (g ∷ rest)
+    → IsCopying means s B p gs y v c h → AreNext (side_in c) true gs c.copied (g ∷ rest)
     → HasWritten means v (image_name (side_in c)) (place_of c.copied) (bytes_of (g ∷ rest)) w
     → WentOver means s B p (copy_steps c.copied (suc (length rest)) (length p.log)) (change (cleaned (side_in c)) c.copied (suc (length rest)) gs) y w (record c { copied = c.copied + suc (length rest) }) h
 run_far means s B p gs y v w c h g [] k next said =
@@ -216,7 +216,7 @@ module _ {V : Type 0} (means : Ghosts V) where
       by_run [] e = absurd (omega (arith, ap length e, count, run_some (side_in c) (drop c.copied gs) some))
       by_run (g ∷ rest) e =
           subst (λ m. WentOver means s B p (copy_steps c.copied m (length p.log)) (change (cleaned (side_in c)) c.copied m gs) y w (record c { copied = c.copied + m }) h) (sym (ap length e) ∙ count)
-          (run_far means s B p gs y v w c h g rest k (subst (AreNext (side_in c) gs c.copied) e (run_next (side_in c) c.copied gs dirty))
+          (run_far means s B p gs y v w c h g rest k (subst (AreNext (side_in c) true gs c.copied) e (run_next (side_in c) c.copied gs dirty))
           (subst (λ l. HasWritten means v (image_name (side_in c)) (place_of c.copied) (bytes_of l) w) e said))
 
   pub run_skips_on : RunSkips means
@@ -226,3 +226,19 @@ module _ {V : Type 0} (means : Ghosts V) where
       each j lt =
           let at = get_within gs (c.copied + j) (length_dropped c.copied j gs (omega (arith, lt, run_length (side_in c) (drop c.copied gs)))) in
           (at.0, at.1, run_clean (side_in c) c.copied gs clean j at.0 lt at.1)
+
+  -- ---- words that were copied before
+  pub words_go : WordsGo means
+  words_go s B p gs y v w c h g rest k next said =
+      run_far means s B p gs y v w c h g rest k next
+      (subst (λ l. HasWritten means v (image_name (side_in c)) (place_of c.copied) l w) (bytes_are (g ∷ rest)) said)
+    where
+      bytes_are : (run : List RegionState) → flat_map words_bytes (words_of run) ≡ bytes_of run
+      bytes_are [] = refl
+      bytes_are (x ∷ xs) = flat_map-cons words_bytes x.back (words_of xs) ∙ (ap (λ l. words_bytes x.back ++ l) (bytes_are xs) ∙ sym (flat_map-cons (λ (z : RegionState). words_bytes z.back) x xs))
+
+  pub words_skip : WordsSkip means
+  words_skip s B p gs y v c h run k next reaches = skip_far s B p gs y v c h (length run) k each reaches
+    where
+      each : (j : ℕ) → j < length run → (g : RegionState) × (slice_get gs (c.copied + j) ≡ Some g) × (is_dirty g (side_in c) ≡ false)
+      each j lt = let at = get_within run j lt in (at.0, next j at.0 at.1)

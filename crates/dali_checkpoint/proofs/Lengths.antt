@@ -1,5 +1,5 @@
 -- No image file becomes shorter, so what it reaches it goes on to reach.
-use Rattle.std.proofs.Common.{◌≡◌, ℕ, ◌+◌, ◌-◌, ◌<◌, ◌≤◌, false, List, length, Option, Some, None, IfSome, refl, ap, sym, subst, ◌∙◌, ⊎_elim, arith, length-append, inl, inr}
+use Rattle.std.proofs.Common.{◌≡◌, ℕ, zero, suc, ◌+◌, ◌-◌, ◌<◌, ◌≤◌, false, List, length, Option, Some, None, IfSome, refl, ap, sym, subst, ◌∙◌, ⊎_elim, arith, length-append, inl, inr}
 use Rattle.std.specs.Prelude.{◌⊎◌, ◌++◌, take, drop, slice_get, slice_set}
 use Rattle.std.proofs.lemmas.List.{length-take-le, length-drop}
 use Rattle.dali_lists.proofs.Lists.{set_cases, get_within}
@@ -15,7 +15,7 @@ use Rattle.dali_core.specs.Cores.{HoldsPlaces}
 pub use Rattle.dali_core.proofs.Lengths.{no_shorter_tells, same_length, torn_length, then_length, torn_unless_stopped, places_stay}
 use Rattle.dali_checkpoint.specs.Done.{Reaches}
 use Rattle.dali_core.specs.Cores.{NoShorter}
-use Rattle.dali_checkpoint.specs.Runs.{is_first_dirty, run_of, change}
+use Rattle.dali_checkpoint.specs.Runs.{is_first_dirty, run_of, AreNext, change}
 use Rattle.dali_checkpoint.proofs.Pieces.{change_cases, run_clean, run_length, run_some}
 use Rattle.dali_checkpoint.proofs.Results.{place_there}
 
@@ -92,6 +92,17 @@ clear_reaches o gs i side lt clean holds =
 
     last : (g : RegionState) × (slice_get gs (i + (run_of side (drop i gs) - 1)) ≡ Some g)
     last = get_within gs (i + (run_of side (drop i gs) - 1)) (omega (arith, some, run_length side (drop i gs), length-drop i gs, lt))
+
+pub next_reaches : (o : Option Disk) (gs : List RegionState) (i : ℕ) (side : Side) (run : List RegionState) → AreNext side false gs i run → IfSome o (HoldsPlaces gs)
+    → IfSome o (λ fs. place_of i ≤ length (image_file side fs)) → IfSome o (λ fs. place_of (i + length run) ≤ length (image_file side fs))
+next_reaches o gs i side run next holds at = by_count (length run) refl
+  where
+    by_count : (n : ℕ) → length run ≡ n → IfSome o (λ fs. place_of (i + length run) ≤ length (image_file side fs))
+    by_count zero none = subst (λ n. IfSome o (λ fs. place_of n ≤ length (image_file side fs))) (let e : i ≡ i + length run = omega (arith, none) in e) at
+    by_count (suc n) some =
+        let last = get_within run n (omega (arith, some)) in
+        let there = next n last.0 last.1 in
+        subst (λ m. IfSome o (λ fs. place_of m ≤ length (image_file side fs))) (let e : i + n + 1 ≡ i + length run = omega (arith, some) in e) (place_there o gs side (i + n) last.0 there.0 holds there.1)
 
 -- ---- bytes that were written
 held_length : (at : ℕ) (bytes old new : List ℕ) → at ≤ length old → Holds old at bytes new → at + length bytes ≤ length new

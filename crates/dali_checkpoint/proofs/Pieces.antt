@@ -12,7 +12,7 @@ use Rattle.dali_region.specs.declared.Side.{Side}
 use Rattle.dali_region.specs.declared.Side.TheVariants.{A as SideA, B as SideB}
 use Rattle.dali_region.specs.State.{RegionState}
 use Rattle.dali_region.specs.Answers.{is_dirty, cleaned}
-use Rattle.dali_checkpoint.specs.Runs.{has_flag, is_first_dirty, run_of, change, runs_from, runs_in, bytes_between}
+use Rattle.dali_checkpoint.specs.Runs.{has_flag, is_first_dirty, run_of, AreNext, change, runs_from, runs_in, bytes_between}
 use Rattle.dali_checkpoint.proofs.Walks.{get_here}
 
 -- ---- elements that are changed
@@ -244,11 +244,7 @@ first_dirty side i [] g e = absurd (cc)
 first_dirty side zero (x ∷ xs) g e = ap (λ z. is_dirty z side) (some_same e)
 first_dirty side (suc i) (x ∷ xs) g e = first_dirty side i xs g e
 
--- these stand in a list from a place on, and their flags are set
-abbrev pub AreNext : Side → List RegionState → ℕ → List RegionState → Type 0
-AreNext side gs i run = (k : ℕ) (g : RegionState) → slice_get run k ≡ Some g → (slice_get gs (i + k) ≡ Some g) × (is_dirty g side ≡ true)
-
-taken_dirty : (side : Side) (n : ℕ) (gs : List RegionState) → n ≤ prefix_len (has_flag side true) gs → AreNext side gs 0 (take n gs)
+taken_dirty : (side : Side) (n : ℕ) (gs : List RegionState) → n ≤ prefix_len (has_flag side true) gs → AreNext side true gs 0 (take n gs)
 taken_dirty side zero gs le k g e = absurd (cc)
 taken_dirty side (suc n) [] le k g e = absurd (cc)
 taken_dirty side (suc n) (x ∷ xs) le k g e = by_flag (is_dirty x side) refl (λ m. taken_dirty side n xs m) k e
@@ -256,17 +252,17 @@ taken_dirty side (suc n) (x ∷ xs) le k g e = by_flag (is_dirty x side) refl (�
     size : (b : Bool) → is_dirty x side ≡ b → suc n ≤ cond b (1 + prefix_len (has_flag side true) xs) 0
     size b e = subst (λ c. suc n ≤ cond c (1 + prefix_len (has_flag side true) xs) 0) e le
 
-    by_flag : (b : Bool) → is_dirty x side ≡ b → (n ≤ prefix_len (has_flag side true) xs → AreNext side xs 0 (take n xs)) → (j : ℕ) → slice_get (x ∷ take n xs) j ≡ Some g → (slice_get (x ∷ xs) (0 + j) ≡ Some g) × (is_dirty g side ≡ true)
+    by_flag : (b : Bool) → is_dirty x side ≡ b → (n ≤ prefix_len (has_flag side true) xs → AreNext side true xs 0 (take n xs)) → (j : ℕ) → slice_get (x ∷ take n xs) j ≡ Some g → (slice_get (x ∷ xs) (0 + j) ≡ Some g) × (is_dirty g side ≡ true)
     by_flag false e later j at = absurd (omega (arith, size false e))
     by_flag true e later zero at = (at, ap (λ z. is_dirty z side) (sym (some_same at)) ∙ e)
     by_flag true e later (suc j) at =
         let one = later (omega (arith, size true e)) j g at in
         (ap (slice_get (x ∷ xs)) (let sum : 0 + suc j ≡ suc (0 + j) = omega arith in sum) ∙ one.0, one.1)
 
-next_on : (side : Side) (x : RegionState) (gs : List RegionState) (i : ℕ) (run : List RegionState) → AreNext side gs i run → AreNext side (x ∷ gs) (suc i) run
+next_on : (side : Side) (x : RegionState) (gs : List RegionState) (i : ℕ) (run : List RegionState) → AreNext side true gs i run → AreNext side true (x ∷ gs) (suc i) run
 next_on side x gs i run next k g e = let one = next k g e in (ap (slice_get (x ∷ gs)) (let sum : suc i + k ≡ suc (i + k) = omega arith in sum) ∙ one.0, one.1)
 
-taken_next : (side : Side) (i n : ℕ) (gs : List RegionState) → n ≤ prefix_len (has_flag side true) (drop i gs) → AreNext side gs i (take n (drop i gs))
+taken_next : (side : Side) (i n : ℕ) (gs : List RegionState) → n ≤ prefix_len (has_flag side true) (drop i gs) → AreNext side true gs i (take n (drop i gs))
 taken_next side zero n gs le k g e = taken_dirty side n gs le k g e
 taken_next side (suc i) zero [] le k g e = absurd (cc)
 taken_next side (suc i) (suc n) [] le k g e = absurd (cc)
@@ -277,7 +273,7 @@ run_within : (side : Side) (b : Bool) (gs : List RegionState) → is_first_dirty
 run_within side b [] e = omega arith
 run_within side b (g ∷ gs) e = subst (λ c. run_of side (g ∷ gs) ≤ prefix_len (has_flag side c) (g ∷ gs)) e (omega arith)
 
-pub run_next : (side : Side) (i : ℕ) (gs : List RegionState) → is_first_dirty side (drop i gs) ≡ true → AreNext side gs i (take (run_of side (drop i gs)) (drop i gs))
+pub run_next : (side : Side) (i : ℕ) (gs : List RegionState) → is_first_dirty side (drop i gs) ≡ true → AreNext side true gs i (take (run_of side (drop i gs)) (drop i gs))
 run_next side i gs dirty = taken_next side i (run_of side (drop i gs)) gs (run_within side true (drop i gs) dirty)
 
 pub run_length : (side : Side) (gs : List RegionState) → run_of side gs ≤ length gs

@@ -1,6 +1,7 @@
 -- The calls of a checkpoint as steps of a run.
 --     StartGoes, CopyGoes, SkipGoes, SettleGoes, CertifyGoes       what each call leaves on Ok is behind steps, and the next call's premise holds there
 --     RunGoes, RunSkips        the same of a run of regions
+--     WordsGo, WordsSkip       the same of words that were copied from the next regions, and of regions that are passed over, with no step between
 --     OthersKeep               between them steps of others keep it, those of an audit too
 --     FlushKeeps               and so does a flush of all records
 --     AuditsTell               an audit that began behind the settlement and ended clean certifies it
@@ -10,8 +11,9 @@
 --     EndIsFar                 the log's end and the number of the current image are small enough for a whole checkpoint
 --     PlacesStay, PlacesGoOn   where the file of a side has the place of each region whose flag for that side is clear, it has so behind each call, and
 --                              behind a copy
+--     PlacesGoFar, ClearReaches     behind copies of several regions; and it reaches behind those whose flags are clear
 use Rattle.std.proofs.Common.{inl, inr}
-use Rattle.std.specs.Prelude.{◌≡◌, ℕ, zero, suc, ◌+◌, ◌<◌, ◌≤◌, ◌^◌, ◌⊎◌, Bool, true, false, List, [], ◌∷◌, Option, Some, IfSome, length, slice_get, slice_set}
+use Rattle.std.specs.Prelude.{◌≡◌, ℕ, zero, suc, ◌+◌, ◌<◌, ◌≤◌, ◌^◌, ◌⊎◌, Bool, true, false, List, [], ◌∷◌, Option, Some, IfSome, length, flat_map, slice_get, slice_set}
 use Rattle.dali_geometry.specs.Places.{regions}
 use Rattle.dali_record.specs.declared.records.Record.{Record}
 use Rattle.dali_record.specs.Spelling.{words_bytes}
@@ -36,7 +38,7 @@ use Rattle.dali_core.specs.Flushed.{FlushesFrame}
 use Rattle.dali_checkpoint.specs.Kept.{Checkpointed, side_in, given_up}
 use Rattle.dali_checkpoint.specs.Done.{Reaches, Writes, FailsToWrite, HasStarted, HasTurnedTo, FailsToTurn, HasEnded}
 use Rattle.dali_core.specs.Cores.{IsNoShorter}
-use Rattle.dali_checkpoint.specs.Runs.{run_at, is_run_dirty, run_bytes, behind_run, cleaned_run}
+use Rattle.dali_checkpoint.specs.Runs.{AreNext, words_of, change, run_at, is_run_dirty, run_bytes, behind_run, cleaned_run}
 use Rattle.dali_checkpoint.specs.Running.{PassesTell, IsCertifiedAt, IsIdle, IsCopying, IsSettled}
 use Rattle.dali_checkpoint.specs.declared.error.CheckpointError.{CheckpointError}
 use Rattle.dali_checkpoint.specs.declared.error.CheckpointError.TheVariants.{Fault}
@@ -142,6 +144,20 @@ module _ {V : Type 0} (means : Ghosts V) where
       (s : Start) (B : List (List Record)) (p : Point) (gs : List RegionState) (y : SystemState) (v : Vaulted V) (c : Checkpointed) (h : Head)
       → IsCopying means s B p gs y v c h → is_run_dirty c gs ≡ false → Reaches means.told (side_in c) (c.copied + run_at c gs) v
       → WentOver s B p (skip_steps c.copied (run_at c gs) (length p.log)) gs y v (behind_run c gs) h
+
+  -- ---- words of the next regions, by one call of the store
+  abbrev pub WordsGo : Type 0
+  WordsGo =
+      (s : Start) (B : List (List Record)) (p : Point) (gs : List RegionState) (y : SystemState) (v w : Vaulted V) (c : Checkpointed) (h : Head) (g : RegionState) (rest : List RegionState)
+      → IsCopying means s B p gs y v c h → AreNext (side_in c) true gs c.copied (g ∷ rest)
+      → HasWritten means v (image_name (side_in c)) (place_of c.copied) (flat_map words_bytes (words_of (g ∷ rest))) w
+      → WentOver s B p (copy_steps c.copied (suc (length rest)) (length p.log)) (change (cleaned (side_in c)) c.copied (suc (length rest)) gs) y w (record c { copied = c.copied + suc (length rest) }) h
+
+  abbrev pub WordsSkip : Type 0
+  WordsSkip =
+      (s : Start) (B : List (List Record)) (p : Point) (gs : List RegionState) (y : SystemState) (v : Vaulted V) (c : Checkpointed) (h : Head) (run : List RegionState)
+      → IsCopying means s B p gs y v c h → AreNext (side_in c) false gs c.copied run → Reaches means.told (side_in c) (c.copied + length run) v
+      → WentOver s B p (skip_steps c.copied (length run) (length p.log)) gs y v (record c { copied = c.copied + length run }) h
 
   -- ---- a settlement
   pub record HasSettled (s : Start) (p : Point) (gs : List RegionState) (z : SystemState) (w : Vaulted V) (c : Checkpointed) (h : Head) (n : ℕ) : Type 0 where
@@ -298,3 +314,13 @@ module _ {V : Type 0} (means : Ghosts V) where
   PlacesGoOn =
       (gs : List RegionState) (r : ℕ) (side : Side) (g : RegionState) (v w : Vaulted V) → slice_get gs r ≡ Some g → IsNoShorter means.told v w → Reaches means.told side (r + 1) w
       → IfSome (means.told v.store) (HoldsPlaces gs) → IfSome (means.told w.store) (HoldsPlaces (slice_set gs r (cleaned side g)))
+
+  abbrev pub PlacesGoFar : Type 0
+  PlacesGoFar =
+      (gs : List RegionState) (i n : ℕ) (side : Side) (v w : Vaulted V) → IsNoShorter means.told v w → Reaches means.told side (i + n) w
+      → IfSome (means.told v.store) (HoldsPlaces gs) → IfSome (means.told w.store) (HoldsPlaces (change (cleaned side) i n gs))
+
+  abbrev pub ClearReaches : Type 0
+  ClearReaches =
+      (gs : List RegionState) (i : ℕ) (side : Side) (run : List RegionState) (v : Vaulted V) → AreNext side false gs i run
+      → IfSome (means.told v.store) (HoldsPlaces gs) → Reaches means.told side i v → Reaches means.told side (i + length run) v

@@ -3,13 +3,15 @@
 --     is_first_dirty side gs   the flag of the first region is set
 --     run_of side gs           how many of the first regions have the first one's flag for this side, 128 at most
 --     runs_in side gs          how many runs whose flags are set there are, where one begins behind the other
+--     AreNext side b gs i run  the regions `run` stand in gs from i on, and their flag for this side is b
+--     words_of run             their words, without the updates of open operations
 --     change f i n xs          the n elements from i on changed by f
 --     run_at c gs              how many regions the checkpoint c copies next
 --     is_run_dirty c gs        they have their flag set
 --     run_bytes c gs           the bytes of their words, without the updates of open operations
 --     behind_run c gs          the checkpoint behind them
 --     cleaned_run c gs         the regions with the flags of these cleared
-use Rattle.std.specs.Prelude.{ℕ, suc, zero, ◌+◌, Bool, true, false, not, if◌then◌else◌, List, [], ◌∷◌, min, take, drop, flat_map}
+use Rattle.std.specs.Prelude.{◌≡◌, ℕ, suc, zero, ◌+◌, Bool, true, false, not, if◌then◌else◌, List, [], ◌∷◌, Some, min, take, drop, map, flat_map, slice_get}
 use Rattle.std.specs.List.{prefix_len}
 use Rattle.dali_record.specs.Spelling.{words_bytes}
 use Rattle.dali_region.specs.declared.Side.{Side}
@@ -37,6 +39,12 @@ runs_from side (suc k) (g ∷ gs) = if is_dirty g side then runs_from side k gs 
 
 abbrev pub runs_in : Side → List RegionState → ℕ
 runs_in side gs = runs_from side 0 gs
+
+abbrev pub AreNext : Side → Bool → List RegionState → ℕ → List RegionState → Type 0
+AreNext side flag gs i run = (k : ℕ) (g : RegionState) → slice_get run k ≡ Some g → (slice_get gs (i + k) ≡ Some g) × (is_dirty g side ≡ flag)
+
+abbrev pub words_of : List RegionState → List (List ℕ)
+words_of run = map (λ g. g.back) run
 
 abbrev pub change : {A : Type 0} → (A → A) → ℕ → ℕ → List A → List A
 change f i n [] = []

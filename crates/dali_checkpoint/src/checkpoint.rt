@@ -1,5 +1,5 @@
 //! One checkpoint, from its start to the anchor's move.
-ghost use Rattle.std.specs.Prelude.{◌≡◌, ◌≤◌, ◌<◌, ◌+◌, ◌^◌, ◌⊎◌, [], true, false, Ok, Some, None, Err, OnOk, OnErr, IfOk, IfErr, IfSome, IsErrOf, IsSomeAnd, length, vec_capacity};
+ghost use Rattle.std.specs.Prelude.{◌≡◌, ◌≤◌, ◌<◌, ◌+◌, ◌^◌, ◌⊎◌, [], true, false, Ok, Some, None, Err, OnOk, OnErr, IfOk, IfErr, IfSome, IsErrOf, IsSomeAnd, length, flat_map, vec_capacity};
 ghost use Rattle.dali_geometry.specs.Places.{regions as regions_of};
 ghost use Rattle.dali_record.specs.Spelling.{words_bytes};
 ghost use Rattle.dali_region.specs.Answers.{is_dirty, cleaned};
@@ -255,6 +255,82 @@ impl Checkpoint {
         let _count = self.header.geometry.regions();
         self.copied = number + 1;
         Ok(())
+    }
+
+    /// Copies a region alone, where its flag for the image is set: its words without the updates of an open operation. It clears
+    /// the flag and answers true. Where the flag is clear it answers false and leaves words and region.
+    ///
+    /// It is for who holds one region at a time and not the vault. From then on until `write_words` has written these words, the
+    /// flag is clear though the image hasn't them: so they are written next, and what others do to the region meanwhile sets
+    /// the flag again. It takes no memory and calls no store.
+    pub fn copy_out(&self, region: &mut Region, words: &mut [u64; 64]) -> bool
+        ensures flag { result ≡ is_dirty region.old (side_in self.now) }
+        ensures copied { is_dirty region.old (side_in self.now) ≡ true → (words.new ≡ region.old.back) × (region.new ≡ cleaned (side_in self.now) region.old) }
+        ensures clean { is_dirty region.old (side_in self.now) ≡ false → (words.new ≡ words.old) × (region.new ≡ region.old) }
+    {
+        let side = side_of(self.header.number);
+        if !region.dirty(side) {
+            return false;
+        }
+        region.copy_settled(words);
+        region.clear_dirty(side);
+        true
+    }
+
+    /// Writes the words of the next regions, 128 at most, to the image: what `copy_out` gave of them, in the order of their
+    /// numbers. It makes one call of the store, whose fault leaves any part of them in their places, and nothing else.
+    /// `Stopped` exactly where the vault was stopped before, and then nothing changes. `Fault` only where the store's count of
+    /// faults rose: then the vault stops, and `give_up` stops the engine. It takes no memory beyond the store's own.
+    ///
+    /// It is for who holds the vault and no region.
+    pub fn write_words<V: Store>(
+        &mut self,
+        words: &[[u64; 64]],
+        vault: &mut Vault<V>,
+    ) -> Result<(), CheckpointError>
+        requires few { length words.now ≤ 128 }
+        requires within { self.old.copied + length words.now ≤ regions_of self.old.header.geometry }
+        requires reaches { Reaches V.told (side_in self.old) self.old.copied vault.old }
+        ensures ok { OnOk result (self.new ≡ record self.old { copied = self.old.copied + length words.now }) }
+        ensures reaches { OnOk result (Reaches V.told (side_in self.old) self.new.copied vault.new) }
+        ensures written { OnOk result
+            (HasWritten V.Store vault.old (image_name (side_in self.old)) (place_of self.old.copied) (flat_map words_bytes words.now) vault.new) }
+        ensures stopped { vault.old.stopped ≡ true → (result ≡ Err (Stopped ByStore)) × (self.new ≡ self.old) × (vault.new ≡ vault.old) }
+        ensures end { vault.new.end ≡ vault.old.end }
+        ensures files { IsNoShorter V.told vault.old vault.new }
+        ensures any_moment { vault.old.stopped ≡ false → LeavesOnly V.moment V.left_since vault.old.store vault.new.store
+            (TornFrom (V.may_leave vault.old.store) (image_name (side_in self.old)) (place_of self.old.copied) (length (flat_map words_bytes words.now))) }
+        ensures calls { vault.old.stopped ≡ false → V.lets_pass vault.new.store ≡ one_less (V.lets_pass vault.old.store) }
+        ensures fault { vault.old.stopped ≡ false → OnErr result ((result ≡ Err Fault) × (self.new ≡ record self.old { faulted = true })) }
+        ensures failed { vault.old.stopped ≡ false → OnErr result
+            (WriteHasFailed V.Store vault.old (image_name (side_in self.old)) (place_of self.old.copied) (length (flat_map words_bytes words.now)) vault.new) }
+    {
+        let side = side_of(self.header.number);
+        let _count = self.header.geometry.regions();
+        match parts::write_words(vault, side, self.copied, words, &mut self.buffer) {
+            Ok(()) => {
+                self.copied += words.len() as u32;
+                Ok(())
+            }
+            Err(VaultError::Stopped) => Err(CheckpointError::Stopped {
+                cause: Cause::Store,
+            }),
+            Err(VaultError::Fault) => {
+                self.faulted = true;
+                Err(CheckpointError::Fault)
+            }
+        }
+    }
+
+    /// Passes over so many of the next regions, whose flags for the image were clear when each was looked at: the image has
+    /// their words already. It is for who copies by `copy_out`; what is written next asks that the image's file reaches
+    /// behind them.
+    pub fn pass_over(&mut self, count: u32)
+        requires within { self.old.copied + count ≤ regions_of self.old.header.geometry }
+        ensures { self.new ≡ record self.old { copied = self.old.copied + count } }
+    {
+        let _count = self.header.geometry.regions();
+        self.copied += count;
     }
 
     /// How many regions are copied, or needed no copy.

@@ -1,5 +1,5 @@
 //! Laws of checkpoints over any store, each the contract of a function that does nothing.
-ghost use Rattle.dali_checkpoint.specs.Laws.{StartGoes, CopyGoes, SkipGoes, RunGoes, RunSkips, SettleGoes, OthersKeep, FlushKeeps, AuditsTell, CertifyGoes, StartFaults, CopyFaults, RunFaults, SettleFaults, CertifyFaults, FailureEnds, GivesUp, PointsTell, EndsIdle, EndIsFar, PlacesStay, PlacesGoOn};
+ghost use Rattle.dali_checkpoint.specs.Laws.{StartGoes, CopyGoes, SkipGoes, RunGoes, RunSkips, WordsGo, WordsSkip, SettleGoes, OthersKeep, FlushKeeps, AuditsTell, CertifyGoes, StartFaults, CopyFaults, RunFaults, SettleFaults, CertifyFaults, FailureEnds, GivesUp, PointsTell, EndsIdle, EndIsFar, PlacesStay, PlacesGoOn, PlacesGoFar, ClearReaches};
 ghost use Rattle.dali_checkpoint.specs.Moments.{StartIsRight, CopyIsRight, SettleIsRight, CertifyIsRight, FailureIsRight};
 
 use dali_store::Store;
@@ -23,6 +23,13 @@ pub fn a_copy_makes_a_step<V: Store>()
 pub fn a_run_of_copies_makes_steps<V: Store>()
     ensures copied { RunGoes V.Store }
     ensures skipped { RunSkips V.Store }
+{}
+
+/// So are words that were copied from the next regions and are written by one call, and regions that are passed over, where
+/// nobody took a step between their copies and the write.
+pub fn copied_words_make_steps<V: Store>()
+    ensures copied { WordsGo V.Store }
+    ensures passed { WordsSkip V.Store }
 {}
 
 /// So is a settlement, once all regions are copied: a taking and a flush, and the write of the table, behind which the whole
@@ -59,10 +66,13 @@ pub fn a_checkpoint_that_fails_makes_steps<V: Store>()
 {}
 
 /// Where the file of a side has the place of each region whose flag for that side is clear, it has so behind a call that
-/// leaves no image file shorter, and behind a copy, which clears a flag.
+/// leaves no image file shorter, and behind a copy, which clears a flag, or the copies of several. So it reaches behind the
+/// next regions where their flags are clear.
 pub fn a_clear_flag_has_its_place<V: Store>()
     ensures stays { PlacesStay V.Store }
     ensures copied { PlacesGoOn V.Store }
+    ensures far { PlacesGoFar V.Store }
+    ensures reaches { ClearReaches V.Store }
 {}
 
 /// Each disk that a crash inside a call of a checkpoint leaves spells files that restart right.

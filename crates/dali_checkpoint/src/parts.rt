@@ -1,5 +1,5 @@
 //! What the calls of a checkpoint are made of.
-ghost use Rattle.std.specs.Prelude.{◌≡◌, ◌≤◌, ◌<◌, ◌+◌, ◌-◌, ◌*◌, ◌^◌, true, false, Err, OnOk, OnErr, IfSome, IfOk, Ok, length, drop, vec_capacity};
+ghost use Rattle.std.specs.Prelude.{◌≡◌, ◌≤◌, ◌<◌, ◌+◌, ◌-◌, ◌*◌, ◌^◌, true, false, Err, OnOk, OnErr, IfSome, IfOk, Ok, length, drop, flat_map, vec_capacity};
 ghost use Rattle.dali_record.specs.Spelling.{words_bytes};
 ghost use Rattle.dali_region.specs.Answers.{cleaned};
 ghost use Rattle.dali_store.specs.Calls.{fewer, one_less};
@@ -22,9 +22,10 @@ ghost use Rattle.dali_core.specs.declared.vault.error.VaultError.TheVariants.{Fa
 
 use crate::error::CheckpointError;
 use dali_bytes::put;
+use dali_core::steps::called;
 use dali_core::vault::{Vault, VaultError};
-use dali_core::{calls, write_out};
-use dali_image::region_bytes;
+use dali_core::write_out;
+use dali_image::{region_bytes, regions_bytes};
 use dali_region::{Region, Side};
 use dali_runs::Cause;
 use dali_store::Store;
@@ -96,7 +97,7 @@ pub fn write<V: Store>(
     ensures any_moment { LeavesOnly V.moment V.left_since vault.old.store vault.new.store (TornFrom (V.may_leave vault.old.store) (image_name side) at (length bytes.now)) }
     ensures calls { V.lets_pass vault.new.store ≡ one_less (V.lets_pass vault.old.store) }
 {
-    match calls::image_write(vault, side, at, bytes) {
+    match called::image_write(vault, side, at, bytes) {
         Ok(()) => Ok(()),
         Err(_) => {
             system.stop();
@@ -119,7 +120,7 @@ pub fn sync<V: Store>(
     ensures any_moment { LeavesOnly V.moment V.left_since vault.old.store vault.new.store (V.may_leave vault.old.store) }
     ensures calls { V.lets_pass vault.new.store ≡ one_less (V.lets_pass vault.old.store) }
 {
-    match calls::image_sync(vault, side) {
+    match called::image_sync(vault, side) {
         Ok(()) => Ok(()),
         Err(_) => {
             system.stop();
@@ -139,7 +140,7 @@ pub fn turn<V: Store>(system: &mut System, vault: &mut Vault<V>) -> Result<(), C
     ensures any_moment { Within V.told V.moment V.left_since vault.old vault.new (MayHaveMoved (V.may_leave vault.old.store) vault.old.current) }
     ensures calls { OnOk result (V.lets_pass vault.new.store ≡ fewer 4 (V.lets_pass vault.old.store)) }
 {
-    match calls::move_anchor(vault) {
+    match called::move_anchor(vault) {
         Ok(()) => Ok(()),
         Err(_) => {
             system.stop();
@@ -168,7 +169,7 @@ pub fn write_region<V: Store>(
 {
     let mut words = [0; 64];
     region.copy_settled(&mut words);
-    calls::image_write(
+    called::image_write(
         vault,
         side,
         64 + 512 * u64::from(number),
@@ -253,8 +254,36 @@ pub fn write_run<V: Store>(
     ensures calls { vault.old.stopped ≡ false → V.lets_pass vault.new.store ≡ one_less (V.lets_pass vault.old.store) }
 {
     gather(regions, from, until, buffer);
-    calls::image_write(vault, side, 64 + 512 * from as u64, buffer)?;
+    called::image_write(vault, side, 64 + 512 * from as u64, buffer)?;
     clear_all(regions, from, until, side);
+    Ok(())
+}
+
+// Writes these words, for which the buffer has room, to the image of this side in the places of the regions from this one on,
+// by one call of the store.
+pub fn write_words<V: Store>(
+    vault: &mut Vault<V>,
+    side: Side,
+    from: u32,
+    words: &[[u64; 64]],
+    buffer: &mut Vec<u8>,
+) -> Result<(), VaultError>
+    requires few { length words.now ≤ 128 }
+    requires room { 65536 ≤ vec_capacity buffer.old }
+    requires inside { Reaches V.told side from vault.old }
+    ensures room { 65536 ≤ vec_capacity buffer.new }
+    ensures stopped { vault.old.stopped ≡ true → (result ≡ Err VaultStopped) × (vault.new ≡ vault.old) }
+    ensures written { OnOk result (HasWritten V.Store vault.old (image_name side) (place_of from) (flat_map words_bytes words.now) vault.new) }
+    ensures reaches { OnOk result (Reaches V.told side (from + length words.now) vault.new) }
+    ensures fault { vault.old.stopped ≡ false → OnErr result ((result ≡ Err StoreFault) × WriteHasFailed V.Store vault.old (image_name side) (place_of from) (length (flat_map words_bytes words.now)) vault.new) }
+    ensures end { vault.new.end ≡ vault.old.end }
+    ensures files { IsNoShorter V.told vault.old vault.new }
+    ensures any_moment { vault.old.stopped ≡ false → LeavesOnly V.moment V.left_since vault.old.store vault.new.store (TornFrom (V.may_leave vault.old.store) (image_name side) (place_of from) (length (flat_map words_bytes words.now))) }
+    ensures calls { vault.old.stopped ≡ false → V.lets_pass vault.new.store ≡ one_less (V.lets_pass vault.old.store) }
+{
+    buffer.clear();
+    regions_bytes(words, buffer).unwrap();
+    called::image_write(vault, side, 64 + 512 * u64::from(from), buffer)?;
     Ok(())
 }
 

@@ -1,6 +1,6 @@
 -- What a crash at any moment of a flush leaves, and how many calls of the store it makes.
-use Rattle.std.proofs.Common.{◌≡◌, ℕ, ◌+◌, ◌≤◌, ◌^◌, false, List, [], ◌∷◌, length, drop, Option, refl, ap, sym, subst, ◌∙◌, inl, inr, ⊎_elim, arith, length-append}
-use Rattle.std.specs.Prelude.{◌==◌, if◌then◌else◌, Result, Ok, Err, IfOk, OnOk}
+use Rattle.std.proofs.Common.{◌≡◌, ℕ, ◌+◌, ◌≤◌, false, List, [], ◌∷◌, length, drop, Option, refl, ap, sym, subst, ◌∙◌, inl, inr, ⊎_elim, arith, length-append}
+use Rattle.std.specs.Prelude.{◌==◌, if◌then◌else◌}
 use Rattle.std.proofs.lemmas.Bool.{ne_eqb}
 use Rattle.std.proofs.lemmas.Option.{IfSome_then}
 use Rattle.std.proofs.lemmas.List.{append-nil}
@@ -9,14 +9,12 @@ use Rattle.dali_record.specs.declared.records.Record.TheVariants.{Format}
 use Rattle.dali_record.specs.Spelling.{spelling}
 use Rattle.dali_store.specs.Store.{Files as Disk, LeavesOnly}
 use Rattle.dali_store.specs.declared.store.Store.{Ghosts}
-use Rattle.dali_log.specs.Appending.{SomeAdded, Adds, bodies_of}
-use Rattle.dali_log.specs.Batch.{Framed, Ends, batch, batches}
+use Rattle.dali_log.specs.Appending.{SomeAdded, Adds}
+use Rattle.dali_log.specs.Batch.{Framed, Ends, batches}
 use Rattle.dali_log.specs.Log.{body_bytes}
-use Rattle.dali_log.proofs.Bytes.{length-batch}
 use Rattle.dali_runs.specs.State.{SystemState}
 use Rattle.dali_runs.specs.Courses.{Takes}
 use Rattle.dali_crash.specs.Checkpoints.{Does}
-use Rattle.dali_core.specs.Vault.Vaulted.{Vaulted, grown}
 use Rattle.dali_core.proofs.StepsLemmas.Steps.{flush_is_right_in}
 use Rattle.dali_core.specs.Flushed.{IsUntaken}
 use Rattle.dali_core.specs.Moments.{FlushIsRight, flush_calls}
@@ -71,18 +69,6 @@ none_waits (r ∷ rs) = some (length (body_bytes (r ∷ rs))) (omega (arith, len
 -- the calls that a frame of all records costs
 pub calls_of : (y : SystemState) (body : List ℕ) → body ≡ body_bytes (drop y.taken y.since) → (if length body == 0 then 0 else 4) ≡ flush_calls y
 calls_of y body e = ap (λ b. if length b == 0 then 0 else 4) e ∙ ap (λ t. if t then 0 else 4) (none_waits (drop y.taken y.since))
-
--- ---- how far the log grows
-frame_fits : (body : List ℕ) → length body ≤ 2 ^ 30 → length (batches (bodies_of body)) ≤ 2 ^ 31
-frame_fits [] few = omega arith
-frame_fits (b ∷ bs) few = omega (arith, few, length-append (batch (b ∷ bs)) [], length-batch (b ∷ bs))
-
-pub grown_end : {V : Type 0} (v w : Vaulted V) (f : Framed) → w ≡ grown v w.store f → length f.body ≤ 2 ^ 30 → w.end ≤ v.end + 2 ^ 31
-grown_end v w f is few = omega (arith, ap (λ (x : Vaulted _). x.end) is, frame_fits f.body few)
-
-pub grows_by : {V T E : Type 0} (v w : Vaulted V) (f : Framed) (r : Result T E) (P : T → Type 0) → length f.body ≤ 2 ^ 30 → ((x : T) → P x → w ≡ grown v w.store f) → IfOk r P → OnOk r (w.end ≤ v.end + 2 ^ 31)
-grows_by v w f (Ok x) P few to is = grown_end v w f (to x is) few
-grows_by v w f (Err e) P few to is = tt
 
 -- ---- each moment of a flush restarts right
 module _ {V : Type 0} (means : Ghosts V) where

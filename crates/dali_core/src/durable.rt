@@ -11,7 +11,7 @@ ghost use Rattle.dali_core.specs.Flushed.{Grows, FlushesFrame, FailsFrame, Flush
 ghost use Rattle.dali_core.specs.Cores.{IsWholeCore, IsNoShorter};
 ghost use Rattle.dali_core.specs.Moments.{flush_calls, FlushLeaves, Within};
 
-use crate::calls;
+use crate::steps::called;
 use crate::vault::{Vault, VaultError};
 use crate::whole::Core;
 use dali_store::Store;
@@ -40,9 +40,9 @@ pub fn write_out<V: Store>(
     ensures files { IsNoShorter V.told vault.old vault.new }
 {
     match system.take_frame(alloc) {
-        Ok(frame) => calls::flush(vault, &frame),
+        Ok(frame) => called::flush(vault, &frame),
         Err(_) => {
-            let flushed = calls::flush(vault, system.frame());
+            let flushed = called::flush(vault, system.frame());
             system.flushed();
             flushed
         }

@@ -1,7 +1,6 @@
 //! A whole core: regions, system and vault as one value, and what makes its records durable.
 #![tactic(auto)]
 
-pub mod calls;
 mod cleaning;
 mod durable;
 pub mod laws;

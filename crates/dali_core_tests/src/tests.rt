@@ -1,4 +1,5 @@
 //! What no clause says of a system and of clean-ups: that calls succeed with ample memory, and what stands then.
 mod cleanups;
 mod operations;
+mod plans;
 mod systems;

@@ -11,3 +11,4 @@ pub mod OneHeader
 pub mod Kept
 pub mod Passed
 pub mod Undos
+pub mod Sizes

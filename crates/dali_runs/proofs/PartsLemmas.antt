@@ -5,4 +5,5 @@ pub mod Systems
 pub mod Regions
 pub mod Vaults
 pub mod Joined
+pub mod Shares
 pub mod Logs

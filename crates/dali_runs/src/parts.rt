@@ -8,6 +8,7 @@ ghost use Rattle.dali_runs.specs.Parts.Regions.{RegionMoves, RegionTouches, Regi
 ghost use Rattle.dali_runs.specs.Parts.Logs.{LogLogs, HeldIsFree, SystemHasLog};
 ghost use Rattle.dali_runs.specs.Parts.Vaults.{VaultFlushes, VaultFaults, VaultReads, VaultIsShort, VaultMisses, BareVaultFlushes, BareVaultFaults, BareVaultReads, BareVaultIsShort, BareVaultMisses, StepHasVault};
 ghost use Rattle.dali_runs.specs.Parts.Joined.{PartsAreARun};
+ghost use Rattle.dali_runs.specs.Parts.Shares.{ShareAppends, ShareAgain, ShareCounts, ShareIsShort, ShareAlone, ShareIsOrdered, RegionParts, RegionJoins, AuditsCertify, ShareTouches, StepSpares, TouchSpares, CheckIsSound};
 
 /// Each step keeps what a run says of the system, with no region known but the one of the block that is logged.
 pub fn the_system_keeps_its_part()
@@ -52,6 +53,38 @@ pub fn a_step_has_its_region()
 /// A step leaves each region but its own.
 pub fn a_step_leaves_other_regions()
     ensures { RegionsLeave }
+{}
+
+/// A region's share of a log is its own blocks: of two parts together what each one has, of itself itself, as many as are
+/// counted on it, no more than the log has, and all of them where all are its blocks. No audit ends in it.
+pub fn a_share_is_the_regions_blocks()
+    ensures appends { ShareAppends }
+    ensures again { ShareAgain }
+    ensures counts { ShareCounts }
+    ensures short { ShareIsShort }
+    ensures alone { ShareAlone }
+    ensures ordered { ShareIsOrdered }
+{}
+
+/// What a run says of a region it says of the region's share alone; and what it says of the share it says of the log, where
+/// what the audits certify there is sound. It is where each audit that ended clean has certified the region.
+pub fn a_region_keeps_its_share()
+    ensures parts { RegionParts }
+    ensures joins { RegionJoins }
+    ensures audits { AuditsCertify }
+{}
+
+/// The logging of the operation that is open there keeps what a run says of the share.
+pub fn a_region_that_is_touched_keeps_its_share()
+    ensures { ShareTouches }
+{}
+
+/// What is sound on a region stays so behind a step on it and behind a block, and a check that was missed stays missed. A
+/// check that tells no stray write, and misses none, finds all blocks before it sound.
+pub fn what_is_sound_stays_so()
+    ensures step { StepSpares }
+    ensures touch { TouchSpares }
+    ensures check { CheckIsSound }
 {}
 
 /// A flush keeps what a run says of the vault, of each crash image by itself, and where nothing is said of crashes.

@@ -27,7 +27,7 @@ use Rattle.dali_runs.specs.Regions.{IsOpen}
 use Rattle.dali_system.specs.declared.operation.Operation.{Operation}
 use Rattle.dali_system.specs.declared.take_back.TakeBack.{TakeBack}
 use Rattle.dali_system.specs.TakenBack.{IsUndoBlock}
-use Rattle.dali_system.specs.UnderWay.{IsUnderWay}
+use Rattle.dali_system.specs.UnderWay.{IsUnderWay, WrittenIsOpen}
 use Rattle.dali_system.proofs.Lowest.{lowest_or, lowest_count, lowest_write}
 
 -- ---- steps of a plan
@@ -162,6 +162,10 @@ is_done txn b left taken g w none = record {
   where
     hold_with : ℕ → Block → ℕ → Option Hold
     hold_with t x m = Some (record { txn = t; dead = false; read = x.read; xor = x.xor; write = m })
+
+pub written_is_open : WrittenIsOpen
+written_is_open None g way all = absurd way
+written_is_open (Some o) g way all = is_done o.txn o.block o.left o.taken g way ((Decides-eqb o.left 0).0 all)
 
 -- ---- a latch that was taken
 pub latched_unheld : (precheck : Bool) (g : RegionState) → Ok tt ≡ latch_answer precheck g → g.hold ≡ None

@@ -1,5 +1,6 @@
 //! Laws of what is promised and of what is kept, each the contract of a function that does nothing.
 ghost use Rattle.dali_system.specs.Light.{RecordsAreLight};
+ghost use Rattle.dali_system.specs.UnderWay.{WrittenIsOpen};
 ghost use Rattle.dali_system.specs.Promised.{OwnChanges, OthersStay};
 
 /// A promise, what is used of it, and its end change what is promised to their transaction, as they say, and leave what
@@ -13,4 +14,9 @@ pub fn promises_stand_apart()
 /// is never met.
 pub fn the_records_of_a_run_are_light()
     ensures { RecordsAreLight }
+{}
+
+/// An operation under way, all of whose words are written, is open: its block may be logged.
+pub fn a_written_operation_is_open()
+    ensures { WrittenIsOpen }
 {}

@@ -5,7 +5,7 @@ ghost use Rattle.dali_record.specs.Blocks.{made};
 ghost use Rattle.dali_region.specs.State.{latched, with_reads};
 ghost use Rattle.dali_region.specs.Answers.{latch_answer};
 ghost use Rattle.dali_runs.specs.Regions.{IsOpen};
-ghost use Rattle.dali_system.specs.UnderWay.{IsUpdated, IsUnderWay, OneIsUnderWay, WritesNext};
+ghost use Rattle.dali_system.specs.UnderWay.{IsUpdated, IsUnderWay, OneIsUnderWay, WritesNext, words_left, all_written};
 
 use dali_record::{Block, Op};
 use dali_region::{LatchError, Region};
@@ -73,6 +73,13 @@ impl Operation {
         &self.block
     }
 
+    /// Whether all its words are written.
+    pub fn is_written(&self) -> bool
+        ensures { result ≡ all_written (Some self.now) }
+    {
+        self.left == 0
+    }
+
     /// Writes the next word; false exactly where none is left. Then the operation is open, and its block may be logged.
     pub fn update(&mut self, region: &mut Region) -> bool
         requires { IsUnderWay self.old.txn self.old.block self.old.left self.old.taken region.old }
@@ -80,6 +87,7 @@ impl Operation {
         ensures same { (self.new.txn ≡ self.old.txn) × (self.new.block ≡ self.old.block) }
         ensures under_way { IsUnderWay self.new.txn self.new.block self.new.left self.new.taken region.new }
         ensures step { result ≡ true → (self.new.taken ≡ self.old.taken + 1) × IsUpdated region.old region.new }
+        ensures fewer { result ≡ true → words_left (Some self.new) < words_left (Some self.old) }
         ensures none { result ≡ false → (region.new ≡ region.old) × (self.new ≡ self.old) × IsOpen region.new self.new.txn self.new.block }
     {
         if self.left == 0 {
@@ -138,6 +146,13 @@ impl OpenOperation {
         } else {
             None
         }
+    }
+
+    /// Whether one is open, all of whose words are written.
+    pub fn is_written(&self) -> bool
+        ensures { result ≡ all_written self.now }
+    {
+        self.is_open && self.operation.is_written()
     }
 
     /// Starts an operation, as `Operation::start` does; one that was open is let go.

@@ -37,15 +37,13 @@ use Rattle.dali_log.proofs.Unique.{some_bytes, one_log}
 use Rattle.dali_crash.specs.Disks.Disks.{IsImageOf, image_file, image_name, head_of, sizes_in, unchecked, Spells, AllSpell}
 use Rattle.dali_log.specs.Anchors.{IsAnchor}
 use Rattle.dali_log.specs.Anchors.{HasMoved, MayHaveMoved}
+use Rattle.dali_crash.specs.Disks.Changes.{longer, SpellsGrown, FlushSpells, FaultSpells}
 use Rattle.dali_crash.specs.Disks.Bridges.{IsRightNow, TracedTo, LeavesRightAt, body_at, batches_on, AreRight, HaveOneLog, HaveOneAnchor, StoreStarts, InsideOf, MomentsAreRight, FlushIsRight, WriteIsRight, FlushGoesOn, FaultGoesOn, QuietGoesOn, WriteGoesOn, TurnGoesOn, TurnFaultGoesOn, is_image_write, HoldsNext, FormatStarts, restarted_records, closed_head, IsRestartedBy, RestartStarts, GoesOnBy, StopsBy, IsRightIn, TurnsBy, TurnStopsBy, TurnIsRightIn}
 use Rattle.dali_crash.proofs.Traces.{every_moment_is_right, trace_prefix, moment_prefix, every_trace_is_right, fresh_rests, trace_goes_on, trace_runs}
 use Rattle.dali_crash.proofs.DisksLemmas.Growth.{point_runs}
 use Rattle.dali_crash.specs.Traces.{IsFreshImage, Start, bases_of, start_point}
 
 -- ---- more batches in the log
-abbrev longer : Files → List (List Record) → Files
-longer D more = record { batches = D.batches ++ more; gates = D.gates; number = D.number; place = D.place; first = D.first; weight = D.weight; next = D.next; image = D.image; table = D.table }
-
 pub same_sizes : (L more : List (List Record)) → HasFormat L → sizes_of (flat_map (λ b. b) (L ++ more)) ≡ sizes_of (flat_map (λ b. b) L)
 same_sizes L more has = subst (λ M. sizes_of (flat_map (λ b. b) (M ++ more)) ≡ sizes_of (flat_map (λ b. b) M)) (sym has.3) refl
 
@@ -53,11 +51,10 @@ pub same_image : (c d : Disk) (side : Side) → SameBut Log d c → image_file s
 same_image c d A same = same ImageA (λ e. absurd (cc))
 same_image c d B same = same ImageB (λ e. absurd (cc))
 
--- the other files are those of another disk from before, with the same batches
-spells_longer : (c d l : Disk) (D : Files) (made more : List (List Record)) (at : ℕ) → LogOf d.log made at → LogOf l.log made at → Spells d D → AllByRecursion AreSpelled more → SameBut Log d c → Adds at (bodies more) l.log c.log → Spells c (longer D more)
-spells_longer c d l D made more at whole log is each same adds = record {
-  end = next_place at (bodies more);
-  log = subst (λ M. LogOf c.log (M ++ more) (next_place at (bodies more))) batches (grown l.log c.log made more at log each adds);
+pub spells_grown : SpellsGrown
+spells_grown c d D made more at end is whole same log = record {
+  end = end;
+  log = subst (λ M. LogOf c.log (M ++ more) end) batches log;
   anchor = subst (λ bytes. IsAnchor bytes D.gates) (sym (same Anchor (λ e. absurd (cc)))) is.anchor;
   none = λ e. ap (λ (z : Files). longer z more) (is.none e) ∙ ap (λ s. unchecked s (D.batches ++ more)) (sym sizes);
   image = λ e. subst (λ s. IsImageOf s (image_file (side_of D.gates) c) (head_of D) D.image) (sym sizes)
@@ -69,6 +66,10 @@ spells_longer c d l D made more at whole log is each same adds = record {
 
     sizes : sizes_in (longer D more) ≡ sizes_in D
     sizes = same_sizes D.batches more is.log.format
+
+-- the other files are those of another disk from before, with the same batches
+spells_added : (c d l : Disk) (D : Files) (made more : List (List Record)) (at : ℕ) → LogOf d.log made at → LogOf l.log made at → Spells d D → AllByRecursion AreSpelled more → SameBut Log d c → Adds at (bodies more) l.log c.log → Spells c (longer D more)
+spells_added c d l D made more at whole log is each same adds = spells_grown c d D made more at (next_place at (bodies more)) is whole same (grown l.log c.log made more at log each adds)
 
 -- ---- the batches of a frame
 abbrev pub frames : List Record → List (List Record)
@@ -93,6 +94,49 @@ frame_with D (r ∷ rs) = refl
 pub frames_spelled : (rs : List Record) → AreSpelled rs → AllByRecursion AreSpelled (frames rs)
 frames_spelled [] all = tt
 frames_spelled (r ∷ rs) all = (all, tt)
+
+-- ---- what an append leaves, with no run asked for
+module _ (old : Disk → Type 0) (made : List (List Record)) (at : ℕ) (frame : List Record) (c : Disk) (logs : (d : Disk) → old d → LogOf d.log made at) (each : AreSpelled frame) where
+  with_it : (d l : Disk) → old d → old l → SameBut Log d c → Adds at (bodies_of (body_bytes frame)) l.log c.log → (F : Files) → Spells d F → Spells c (with_frame F frame)
+  with_it d l left left_l same adds F is = subst (Spells c) (frame_with F frame)
+      (spells_added c d l F made (frames frame) at (logs d left) (logs l left_l) is (frames_spelled frame each) same
+      (subst (λ more. Adds at more l.log c.log) (sym (frame_bodies frame)) adds))
+
+  without_it : (d l : Disk) → old d → old l → SameBut Log d c → Adds at [] l.log c.log → (F : Files) → Spells d F → Spells c F
+  without_it d l left left_l same adds F is = subst (Spells c) (longer_none F) (spells_added c d l F made [] at (logs d left) (logs l left_l) is tt same adds)
+
+  pub all_spelled : AllAdded old at (bodies_of (body_bytes frame)) c → (d : Disk) × old d × ((F : Files) → Spells d F → Spells c (with_frame F frame))
+  all_spelled added = let o = added.others in let l = added.log in (o.0, o.1, with_it o.0 l.0 o.1 l.1 o.2 l.2)
+
+  pub some_spelled : SomeAdded old at (bodies_of (body_bytes frame)) c → (d : Disk) × old d × (((F : Files) → Spells d F → Spells c F) ⊎ ((F : Files) → Spells d F → Spells c (with_frame F frame)))
+  some_spelled added = (o.0, o.1, by_count (bodies_of (body_bytes frame)) refl l.2 l.3 l.4)
+    where
+      o : (d : Disk) × old d × SameBut Log d c
+      o = added.others
+
+      l : (d : Disk) × old d × (n : ℕ) × (n ≤ length (bodies_of (body_bytes frame))) × Adds at (take n (bodies_of (body_bytes frame))) d.log c.log
+      l = added.log
+
+      none : Adds at [] l.0.log c.log → ((F : Files) → Spells o.0 F → Spells c F) ⊎ ((F : Files) → Spells o.0 F → Spells c (with_frame F frame))
+      none adds = inl (without_it o.0 l.0 o.1 l.1 o.2 adds)
+
+      whole : Adds at (bodies_of (body_bytes frame)) l.0.log c.log → ((F : Files) → Spells o.0 F → Spells c F) ⊎ ((F : Files) → Spells o.0 F → Spells c (with_frame F frame))
+      whole adds = inr (with_it o.0 l.0 o.1 l.1 o.2 adds)
+
+      by_body : (body : List ℕ) → body_bytes frame ≡ body → (n : ℕ) → n ≤ length (bodies_of body) → Adds at (take n (bodies_of body)) l.0.log c.log → ((F : Files) → Spells o.0 F → Spells c F) ⊎ ((F : Files) → Spells o.0 F → Spells c (with_frame F frame))
+      by_body body e zero le adds = none adds
+      by_body [] e (suc n) le adds = none adds
+      by_body (b ∷ bs) e (suc zero) le adds = whole (subst (λ x. Adds at (bodies_of x) l.0.log c.log) (sym e) adds)
+      by_body (b ∷ bs) e (suc (suc n)) le adds = absurd (omega (arith, le))
+
+      by_count : (more : List (List ℕ)) → bodies_of (body_bytes frame) ≡ more → (n : ℕ) → n ≤ length more → Adds at (take n more) l.0.log c.log → ((F : Files) → Spells o.0 F → Spells c F) ⊎ ((F : Files) → Spells o.0 F → Spells c (with_frame F frame))
+      by_count more e n le adds = by_body (body_bytes frame) refl n (subst (λ m. n ≤ length m) (sym e) le) (subst (λ m. Adds at (take n m) l.0.log c.log) (sym e) adds)
+
+pub flush_spells : (old : Disk → Type 0) → FlushSpells old
+flush_spells old made at frame c logs each added = all_spelled old made at frame c logs each added
+
+pub fault_spells : (old : Disk → Type 0) → FaultSpells old
+fault_spells old made at frame c logs each added = some_spelled old made at frame c logs each added
 
 pub spelled_behind : (n : ℕ) (L : List Record) → ((i : ℕ) (r : Record) → slice_get L i ≡ Some r → CanBeSpelled r) → AreSpelled (drop n L)
 spelled_behind zero [] each = tt
@@ -170,58 +214,17 @@ module _ (old : Disk → Type 0) (s : Start) (made : List (List Record)) (p : Po
 
   pub comes_all : (c : Disk) → AllAdded old at (bodies_of (body_at p)) c → Comes old s made p (Came p (Does Flushes)) c
   comes_all c added =
-      let o = added.others in
-      let l = added.log in
-      let D = all o.0 o.1 in (
-        D.0,
-        D.2,
-        with_frame D.0 frame,
-        subst (Spells c) (frame_with D.0 frame)
-            (spells_longer c o.0 l.0 D.0 made (frames frame) at (logs o.0 o.1) (logs l.0 l.1) D.1 (frames_spelled frame (spelled_frame s made p D.0 D.2)) o.2
-            (subst (λ more. Adds at more l.0.log c.log) (sym (frame_bodies frame)) l.2)),
-        refl,
-      )
+      let D = all added.others.0 added.others.1 in
+      let w = flush_spells old made at frame c logs (spelled_frame s made p D.0 D.2) added in
+      let E = all w.0 w.1 in
+      (E.0, E.2, with_frame E.0 frame, w.2 E.0 E.1, refl)
 
   pub comes_some : (c : Disk) → SomeAdded old at (bodies_of (body_at p)) c → Comes old s made p (λ D F. (F ≡ D) ⊎ (F ≡ with_frame D frame)) c
-  comes_some c added = by_count (bodies_of (body_at p)) refl added.log.2 added.log.3 added.log.4
-    where
-      o : (d : Disk) × old d × SameBut Log d c
-      o = added.others
-
-      l : Disk
-      l = added.log.0
-
-      D : Files
-      D = (all o.0 o.1).0
-
-      is : Spells o.0 D
-      is = (all o.0 o.1).1
-
-      traced : TracedTo s made p D
-      traced = (all o.0 o.1).2
-
-      none : Adds at [] l.log c.log → Comes old s made p (λ D F. (F ≡ D) ⊎ (F ≡ with_frame D frame)) c
-      none adds = (D, traced, D, subst (Spells c) (longer_none D) (spells_longer c o.0 l D made [] at (logs o.0 o.1) (logs l added.log.1) is tt o.2 adds), inl refl)
-
-      whole : Adds at (bodies_of (body_at p)) l.log c.log → Comes old s made p (λ D F. (F ≡ D) ⊎ (F ≡ with_frame D frame)) c
-      whole adds = (
-        D,
-        traced,
-        with_frame D frame,
-        subst (Spells c) (frame_with D frame)
-            (spells_longer c o.0 l D made (frames frame) at (logs o.0 o.1) (logs l added.log.1) is (frames_spelled frame (spelled_frame s made p D traced)) o.2
-            (subst (λ more. Adds at more l.log c.log) (sym (frame_bodies frame)) adds)),
-        inr refl,
-      )
-
-      by_body : (body : List ℕ) → body_at p ≡ body → (n : ℕ) → n ≤ length (bodies_of body) → Adds at (take n (bodies_of body)) l.log c.log → Comes old s made p (λ D F. (F ≡ D) ⊎ (F ≡ with_frame D frame)) c
-      by_body body e zero le adds = none adds
-      by_body [] e (suc n) le adds = none adds
-      by_body (b ∷ bs) e (suc zero) le adds = whole (subst (λ x. Adds at (bodies_of x) l.log c.log) (sym e) adds)
-      by_body (b ∷ bs) e (suc (suc n)) le adds = absurd (omega (arith, le))
-
-      by_count : (more : List (List ℕ)) → bodies_of (body_at p) ≡ more → (n : ℕ) → n ≤ length more → Adds at (take n more) l.log c.log → Comes old s made p (λ D F. (F ≡ D) ⊎ (F ≡ with_frame D frame)) c
-      by_count more e n le adds = by_body (body_at p) refl n (subst (λ m. n ≤ length m) (sym e) le) (subst (λ m. Adds at (take n m) l.log c.log) (sym e) adds)
+  comes_some c added =
+      let D = all added.others.0 added.others.1 in
+      let w = fault_spells old made at frame c logs (spelled_frame s made p D.0 D.2) added in
+      let E = all w.0 w.1 in
+      ⊎_elim {C = Comes old s made p (λ D F. (F ≡ D) ⊎ (F ≡ with_frame D frame)) c} (λ same. (E.0, E.2, E.0, same E.0 E.1, inl refl)) (λ more. (E.0, E.2, with_frame E.0 frame, more E.0 E.1, inr refl)) w.2
 
 -- ---- the laws
 pub are_right : (old : Disk → Type 0) → AreRight old

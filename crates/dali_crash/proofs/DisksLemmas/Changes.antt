@@ -1,13 +1,12 @@
 -- What a disk spells behind a change of one file.
-use Rattle.std.proofs.Common.{◌≡◌, ◌≢◌, ◌+◌, ◌++◌, ap, sym, subst, ◌∙◌, arith}
-use Rattle.dali_record.specs.Files.{Files}
+use Rattle.std.proofs.Common.{◌≢◌, ◌+◌, sym, subst, arith}
 use Rattle.dali_store.specs.declared.store.FileName.TheVariants.{Log, Anchor}
 use Rattle.dali_log.specs.Log.{LogOf}
 use Rattle.dali_crash.specs.Checkpoints.{side_of}
-use Rattle.dali_crash.specs.Disks.Disks.{IsImageOf, image_file, image_name, head_of, sizes_in, unchecked}
+use Rattle.dali_crash.specs.Disks.Disks.{IsImageOf, image_name, head_of, sizes_in}
 use Rattle.dali_log.specs.Anchors.{IsAnchor}
-use Rattle.dali_crash.specs.Disks.Changes.{SpellsBeside, longer, SpellsLonger, SpellsTurned}
-use Rattle.dali_crash.proofs.DisksLemmas.Bridges.{sides_turn, two_names, file_named, no_image, same_image, other_files, same_sizes}
+use Rattle.dali_crash.specs.Disks.Changes.{SpellsBeside, SpellsLonger, SpellsTurned}
+use Rattle.dali_crash.proofs.DisksLemmas.Bridges.{sides_turn, two_names, file_named, no_image, other_files, spells_grown}
 
 pub spells_beside : SpellsBeside
 spells_beside c d F is same = record {
@@ -22,17 +21,7 @@ spells_beside c d F is same = record {
     apart = two_names (side_of F.gates) (side_of (F.gates + 1)) (sides_turn F.gates)
 
 pub spells_longer : SpellsLonger
-spells_longer c d F more end is same log = record {
-  end = end;
-  log = log;
-  anchor = subst (λ bytes. IsAnchor bytes F.gates) (sym (same Anchor (λ e. absurd (cc)))) is.anchor;
-  none = λ e. ap (λ (z : Files). longer z more) (is.none e) ∙ ap (λ s. unchecked s (F.batches ++ more)) (sym sizes);
-  image = λ e. subst (λ s. IsImageOf s (image_file (side_of F.gates) c) (head_of F) F.image) (sym sizes)
-      (subst (λ bytes. IsImageOf (sizes_in F) bytes (head_of F) F.image) (sym (same_image c d (side_of F.gates) same)) (is.image e));
-}
-  where
-    sizes : sizes_in (longer F more) ≡ sizes_in F
-    sizes = same_sizes F.batches more is.log.format
+spells_longer c d F more end is same log = spells_grown c d F F.batches more is.end end is is.log same log
 
 pub spells_turned : SpellsTurned
 spells_turned c d F h image is same anchor holds = record {

@@ -6,7 +6,7 @@ ghost use Rattle.dali_crash.specs.Disks.Places.{ImageIsRead, WriteIsRead};
 ghost use Rattle.dali_crash.specs.Disks.Images.{HeadIsRead, QuietIsRead, SyncHolds, HeldGoesOn};
 ghost use Rattle.dali_crash.specs.Disks.Heads.{HeadsFit, KeptFits, StaysFitting, NextFits};
 ghost use Rattle.dali_crash.specs.Disks.Ends.{EndIsSmall, PlaceIsSmall, LogIsFramed};
-ghost use Rattle.dali_crash.specs.Disks.Changes.{SpellsBeside, SpellsLonger, SpellsTurned};
+ghost use Rattle.dali_crash.specs.Disks.Changes.{SpellsBeside, SpellsLonger, SpellsGrown, FlushSpells, FaultSpells, SpellsTurned};
 ghost use Rattle.dali_crash.specs.Disks.Ordered.{OrderedIsRead};
 ghost use Rattle.dali_crash.specs.Disks.NewFiles.{StartReads, HeaderReads, CopyReads, TableReads, QuietReads, HasPlaces, HeaderBegins, CopyContinues, SkipContinues, QuietContinues, TableEnds};
 ghost use Rattle.dali_crash.specs.Disks.Disks.{SpellsOne};
@@ -148,7 +148,16 @@ pub fn a_log_ends_below_its_limit<V: Store>()
 pub fn a_disk_is_read_behind_a_change()
     ensures other { SpellsBeside }
     ensures log { SpellsLonger }
+    ensures grown { SpellsGrown }
     ensures anchor { SpellsTurned }
+{}
+
+/// Let the logs of all disks that a crash may leave be one row of batches. Behind a flush each disk spells whatever one from
+/// before spelled, with the batch of the frame; at each moment of the flush, and behind a fault in it, with that batch or
+/// without it. Neither a core nor a run is asked for: so who holds the vault alone, while others log, may say it.
+pub fn a_flush_is_read_without_a_core<V: Store>()
+    ensures flush { (v : V) → FlushSpells (V.may_leave v) }
+    ensures fault { (v : V) → FaultSpells (V.may_leave v) }
 {}
 
 /// In both image files each place that was written since the load reads the words that the point says: from a start on,

@@ -1,18 +1,18 @@
 -- Bytes that are written one behind the other.
-use Rattle.std.proofs.Common.{◌≡◌, ℕ, zero, suc, ◌+◌, ◌-◌, ◌*◌, ◌≤◌, ◌<◌, List, [], ◌∷◌, ◌++◌, length, get_or, take, drop, Option, Some, None, IfSome, refl, ap, sym, subst, ◌∙◌, arith, append_assoc, length-append}
+use Rattle.std.proofs.Common.{◌≡◌, ℕ, zero, suc, ◌+◌, ◌-◌, ◌*◌, ◌≤◌, List, [], ◌∷◌, ◌++◌, length, take, drop, Option, Some, None, IfSome, refl, ap, sym, subst, ◌∙◌, arith, append_assoc, length-append}
 use Rattle.std.specs.Prelude.{flat_map, min}
 use Rattle.std.specs.List.{AllByRecursion}
 use Rattle.std.proofs.lemmas.List.{take_at, drop_at, drop-drop, length-take-le, append-nil, take-append-drop, take_min}
-use Rattle.std.proofs.lemmas.List.Concat.{flat_map-append, flat_map-cons}
+use Rattle.std.proofs.lemmas.List.Concat.{flat_map-append}
 use Rattle.std.proofs.Math.Seq.{take-add}
 use Rattle.dali_record.specs.Spelling.{words_bytes}
-use Rattle.dali_record.proofs.Lengths.{words_are_8}
 use Rattle.dali_store.specs.declared.store.FileName.{FileName}
 use Rattle.dali_store.specs.Store.{Files, file_of, Holds, HoldsIn}
 use Rattle.dali_crash.proofs.DisksLemmas.Ordered.{reaches}
 use Rattle.dali_image.specs.Headers.{heading}
 use Rattle.dali_image.specs.declared.header.Header.{Header}
 use Rattle.dali_image.proofs.OneHeader.{heading_is_64}
+pub use Rattle.dali_image.proofs.Sizes.{regions_are_512, sized}
 
 -- nothing was written
 holds_none : (p : ℕ) (xs : List ℕ) → Holds xs p [] xs
@@ -76,10 +76,6 @@ held_front f h bytes words t u v are one two =
     held_then f 0 64 bytes words (heading h ++ words) t u v (let size : 64 ≡ 0 + length bytes = omega (arith, ap length are, heading_is_64 h) in size) (ap (λ l. l ++ words) are) (from_start f t) one two
 
 -- ---- the words of regions
-pub regions_are_512 : (rs : List (List ℕ)) → AllByRecursion (λ ws. length ws ≡ 64) rs → length (flat_map words_bytes rs) ≡ 512 * length rs
-regions_are_512 [] all = refl
-regions_are_512 (ws ∷ rs) all = ap length (flat_map-cons words_bytes ws rs) ∙ omega (arith, length-append (words_bytes ws) (flat_map words_bytes rs), words_are_8 ws, all.0, regions_are_512 rs all.1)
-
 pub all_taken : (P : List ℕ → Type 0) (n : ℕ) (rs : List (List ℕ)) → AllByRecursion P rs → AllByRecursion P (take n rs)
 all_taken P zero rs all = tt
 all_taken P (suc n) [] all = tt
@@ -101,7 +97,3 @@ piece_after rs n until is within =
     ap (λ (k : ℕ). flat_map words_bytes (take k rs) ++ flat_map words_bytes (take (until - n * 128) (drop (n * 128) rs))) (let e : 128 * n ≡ n * 128 = omega arith in e)
     ∙ (next_piece rs (n * 128) until (omega (arith, is, within))
     ∙ ap (flat_map words_bytes) (ap (λ (k : ℕ). take k rs) is ∙ (take_min (n * 128 + 128) rs ∙ ap (λ (k : ℕ). take k rs) (let e : n * 128 + 128 ≡ 128 * (n + 1) = omega arith in e))))
-
-pub sized : (rs : List (List ℕ)) → ((i : ℕ) → i < length rs → length (get_or rs i []) ≡ 64) → AllByRecursion (λ ws. length ws ≡ 64) rs
-sized [] each = tt
-sized (ws ∷ rs) each = (each 0 (omega arith), sized rs (λ i lt. each (suc i) (omega (arith, lt))))

@@ -1,8 +1,7 @@
 use Rattle.std.proofs.Common.{◌≡◌, IsSomeAnd, IfSome}
-use Rattle.dali_system.specs.UnderWay.{OneIsUnderWay}
+use Rattle.dali_system.specs.UnderWay.{OneIsUnderWay, words_left}
 use Rattle.dali_calls.specs.Plans.{with_operation}
 use Rattle.dali_calls.specs.Operating.{AreWritten}
-use Rattle.dali_calls.proofs.Operating.{words_left}
 use Rattle.dali_calls.proofs.writing.write_all.Given as goal
 
 abbrev pub invariant-loop : goal.invariant-loop

@@ -1,7 +1,6 @@
 use Rattle.std.proofs.Common.{◌≡◌, IsSomeAnd, IfSome}
-use Rattle.dali_system.specs.UnderWay.{OneIsUnderWay}
+use Rattle.dali_system.specs.UnderWay.{OneIsUnderWay, words_left}
 use Rattle.dali_calls.specs.Operating.{AreWritten}
-use Rattle.dali_calls.proofs.Operating.{words_left}
 use Rattle.dali_calls.proofs.writing.write_back.Given as goal
 
 abbrev pub invariant-loop : goal.invariant-loop

@@ -24,3 +24,8 @@ returns-clause-under_way c =
 
 pub returns-clause-step : goal.returns-clause-step
 returns-clause-step c e = (refl, (lowest c.args.self.now.left, get_or c.as_slice.result.now c.args.self.now.taken 0, (has_read c.args.self.now.txn c.args.self.now.block c.args.self.now.left c.args.self.now.taken c.args.region.now c.requires (some_left c.args.self.now.left c.if-self-eq0.false), search rules), c.update.ensures.after))
+
+pub returns-clause-fewer : goal.returns-clause-fewer
+returns-clause-fewer c e =
+    let more = one_more c.args.self.now.txn c.args.self.now.block c.args.self.now.left c.args.self.now.taken c.args.region.now c.requires (some_left c.args.self.now.left c.if-self-eq0.false) in
+    omega (arith, more)

@@ -1,6 +1,6 @@
 use Rattle.std.proofs.lemmas.Option.{IfSome_then}
 use Rattle.dali_core.proofs.StepsLemmas.Files.{was_running}
-use Rattle.dali_core.proofs.calls.move_anchor.Goals as goal
+use Rattle.dali_core.proofs.steps.called.move_anchor.Goals as goal
 
 pub returns-clause-fault : goal.returns-clause-fault
 returns-clause-fault g c e = record {

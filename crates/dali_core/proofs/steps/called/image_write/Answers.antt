@@ -1,7 +1,7 @@
 use Rattle.std.specs.Prelude.{length}
 use Rattle.dali_crash.specs.Disks.Disks.{image_name}
 use Rattle.dali_core.proofs.StepsLemmas.Moments.{leaves_by, torn_none}
-use Rattle.dali_core.proofs.calls.image_write.Goals as goal
+use Rattle.dali_core.proofs.steps.called.image_write.Goals as goal
 
 pub returns-clause-any_moment : goal.returns-clause-any_moment
 returns-clause-any_moment g c runs = leaves_by g.V.Store.moment g.V.Store.left_since g.V.Store.may_leave c.args.vault.now.store c.image_write.new.self.store _
