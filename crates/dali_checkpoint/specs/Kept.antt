@@ -4,8 +4,10 @@
 --                              n bytes
 --     cause_of y v             why the engine is stopped, if it is: the system's cause, else the vault's
 --     IsEndOf y n j            the records since the load have the end of an audit with this verdict, which didn't begin before record n
+--     NoneInHand y v           while the vault runs, what was taken is flushed: so it is for who has both, whatever others did before
+--     AreAllFlushed y v        all records since the load are flushed
 --     given_up b y             the system behind a checkpoint that is given up, where a call of the store failed or didn't
-use Rattle.std.specs.Prelude.{ℕ, ◌+◌, ◌≤◌, Bool, true, false, List, Option, Some, None, Contains}
+use Rattle.std.specs.Prelude.{◌≡◌, ℕ, ◌+◌, ◌≤◌, Bool, true, false, List, Option, Some, None, Contains, length}
 use Rattle.dali_region.specs.declared.Side.{Side}
 use Rattle.dali_runs.specs.declared.causes.Cause.{Cause}
 use Rattle.dali_runs.specs.declared.causes.Cause.TheVariants.{Store}
@@ -44,6 +46,12 @@ cause_of y v = cause_in y.stop v.stopped
 abbrev pub given_up : Bool → SystemState → SystemState
 given_up true y = in_checkpoint (store_stopped y) false
 given_up false y = in_checkpoint y false
+
+abbrev pub NoneInHand : {V : Type 0} → SystemState → Vaulted V → Type 0
+NoneInHand y v = v.stopped ≡ false → v.flushed ≡ y.taken
+
+abbrev pub AreAllFlushed : {V : Type 0} → SystemState → Vaulted V → Type 0
+AreAllFlushed y v = length y.since ≤ v.flushed
 
 pub record IsEndOf (y : SystemState) (n : ℕ) (j : Judged) : Type 0 where
   pub behind : n ≤ j.begin

@@ -1,5 +1,5 @@
 //! One checkpoint, from its start to the anchor's move.
-ghost use Rattle.std.specs.Prelude.{◌≡◌, ◌≤◌, ◌<◌, ◌+◌, ◌^◌, ◌⊎◌, [], true, false, Ok, Some, None, Err, OnOk, OnErr, IfOk, IfErr, IfSome, IsErrOf, IsSomeAnd, length, flat_map, vec_capacity};
+ghost use Rattle.std.specs.Prelude.{◌≡◌, ◌≤◌, ◌<◌, ◌+◌, ◌^◌, ◌⊎◌, [], true, false, Ok, Some, None, Err, OnOk, OnErr, IfOk, IfErr, IfSome, IsErrOf, IsSomeAnd, length, drop, flat_map, vec_capacity};
 ghost use Rattle.dali_geometry.specs.Places.{regions as regions_of};
 ghost use Rattle.dali_record.specs.Spelling.{words_bytes};
 ghost use Rattle.dali_region.specs.Answers.{is_dirty, cleaned};
@@ -12,7 +12,7 @@ ghost use Rattle.dali_crash.specs.Disks.Disks.{image_name};
 ghost use Rattle.dali_crash.specs.Disks.Places.{place_of};
 ghost use Rattle.dali_core.specs.Steps.Said.{TornFrom, HasWritten, WriteHasFailed};
 ghost use Rattle.dali_core.specs.Moments.{flush_calls, FlushLeaves, Within};
-ghost use Rattle.dali_checkpoint.specs.Kept.{side_in, cause_of, given_up, IsEndOf};
+ghost use Rattle.dali_checkpoint.specs.Kept.{side_in, cause_of, given_up, IsEndOf, NoneInHand, AreAllFlushed};
 ghost use Rattle.dali_checkpoint.specs.Done.{Reaches, CallsStore, Writes, FailsToWrite, HasStarted, HasTurnedTo, FailsToTurn, IsKept, IsLost};
 ghost use Rattle.dali_core.specs.Cores.{IsNoShorter};
 ghost use Rattle.dali_core.specs.Cores.{HoldsPlaces};
@@ -143,6 +143,29 @@ fn anchor<V: Store>(
     Ok(vault.current())
 }
 
+// How many records were logged since the load.
+fn logged(system: &System) -> u64
+    ensures { result ≡ length system.now.state.since }
+{
+    system.records() - system.first()
+}
+
+// Whether another has taken all records, and a flush has lost none: a vault that runs flushes what is taken at once.
+fn is_kept<V: Store>(system: &System, vault: &Vault<V>) -> bool
+    ensures taken { result ≡ true → drop system.now.state.taken system.now.state.since ≡ [] }
+    ensures flushed { result ≡ true → NoneInHand system.now.state vault.now → AreAllFlushed system.now.state vault.now }
+    ensures runs { drop system.now.state.taken system.now.state.since ≡ [] → vault.now.stopped ≡ false → result ≡ true }
+    ensures always { drop system.now.state.taken system.now.state.since ≡ [] → AreAllFlushed system.now.state vault.now → result ≡ true }
+{
+    if system.frame().records() > 0 {
+        return false;
+    }
+    if !vault.stopped() {
+        return true;
+    }
+    logged(system) <= vault.flushed()
+}
+
 // Flushes what an audit that failed logged, unless another has.
 fn keep_failure<V: Store>(
     alloc: Global,
@@ -152,6 +175,7 @@ fn keep_failure<V: Store>(
     requires end { vault.old.end < 2 ^ 62 }
     ensures kept { OnOk result (IsKept V.Store system.old.state vault.old system.new.state vault.new) }
     ensures lost { IfErr result (IsLost V.Store system.old.state vault.old system.new.state vault.new) }
+    ensures flushed { OnOk result (NoneInHand system.old.state vault.old → AreAllFlushed system.new.state vault.new) }
     ensures files { IsNoShorter V.told vault.old vault.new }
     ensures any_moment { vault.old.stopped ≡ false → Within V.told V.moment V.left_since vault.old vault.new (FlushLeaves V.may_leave system.old.state vault.old) }
     ensures grows { vault.new.end ≤ vault.old.end + 2 ^ 31 }
@@ -159,8 +183,9 @@ fn keep_failure<V: Store>(
     ensures ends { system.new.state.checking ≡ false }
     ensures promised { system.new.promised ≡ system.old.promised }
 {
+    let _count = logged(system);
     system.end_copy();
-    if system.frame().records() == 0 {
+    if is_kept(system, vault) {
         return Ok(());
     }
     match parts::cause_of(system, vault) {
@@ -447,9 +472,9 @@ impl Checkpoint {
 
     /// Ends the checkpoint by the verdict of an audit of this system that began behind `settle` and whose end is in its log.
     /// Where it names no region, all records are flushed, the image is synced and the anchor moves to it. It answers the
-    /// number of the image, which is the current one then. Where the verdict names regions it answers `Failed`, and what the
-    /// audit logged is flushed, unless another had taken it. Else it answers `Stopped`, where the vault was stopped before,
-    /// or `Fault`, where that flush met a fault. For a clean verdict `Stopped` comes exactly where engine or vault was
+    /// number of the image, which is the current one then. Where the verdict names regions what the audit logged is flushed,
+    /// unless another has flushed it, and it answers `Failed` once it is. Else it answers `Stopped`, where the vault was
+    /// stopped before, be it in the flush of another who had taken it, or `Fault`, where its own flush met a fault. For a clean verdict `Stopped` comes exactly where engine or vault was
     /// stopped before. `Fault` comes only where the store's count of faults rose, and then vault and engine stop. No
     /// checkpoint is under way behind any answer. It never fails for want of memory.
     pub fn certify<V: Store>(
@@ -466,6 +491,7 @@ impl Checkpoint {
         ensures turned { OnOk result (HasTurnedTo V.Store system.old.state vault.old (side_in self) vault.new) }
         ensures flag { OnOk result (system.new ≡ record system.old { state = in_checkpoint (taken system.old.state) false }) }
         ensures kept { IsErrOf result (Failed verdict.failing) → IsKept V.Store system.old.state vault.old system.new.state vault.new }
+        ensures flushed { IsErrOf result (Failed verdict.failing) → NoneInHand system.old.state vault.old → AreAllFlushed system.new.state vault.new }
         ensures failed { IfErr result (λ e. (verdict.failing ≡ [] → ⊥) → (e ≡ Failed verdict.failing) ⊎ IsLost V.Store system.old.state vault.old system.new.state vault.new e) }
         ensures stopped { verdict.failing ≡ [] → IfSome (cause_of system.old.state vault.old) (λ cause. (result ≡ Err (Stopped cause)) × (system.new ≡ record system.old { state = in_checkpoint system.old.state false }) × (vault.new ≡ vault.old)) }
         ensures fault { verdict.failing ≡ [] → cause_of system.old.state vault.old ≡ None → OnErr result ((result ≡ Err Fault) × (system.new ≡ record system.old { state = in_checkpoint (store_stopped (taken system.old.state)) false }) × FailsToTurn V.Store system.old.state vault.old (side_in self) vault.new) }

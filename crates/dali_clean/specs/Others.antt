@@ -4,8 +4,10 @@
 --     OthersStay rs y t rs' z  each other transaction has its row so, and its locks; and no region is latched that wasn't
 --     HasKept s z              each transaction, t too, has the locks that it had, and the memory promised
 --     CleansOnly rs s t result rs' z   what a clean-up with this answer leaves to all: to the others as above, with the memory promised to them; t is
---                              gone where it is cleaned up, and has kept what it had where that is refused; the flags of the regions stay
+--                              gone where it is cleaned up, and what it was promised is given back; it has kept what it had where that is refused;
+--                              the flags of the regions stay
 use Rattle.std.specs.Prelude.{◌≡◌, ◌==◌, ◌⊎◌, ℕ, false, List, None, Some, Result, OnOk, OnErr, slice_get, option_map}
+use Rattle.std.specs.FinMap.{remove}
 use Rattle.dali_region.specs.declared.Hold.{Hold}
 use Rattle.dali_region.specs.State.{RegionState}
 use Rattle.dali_att.specs.declared.state.State.TheVariants.{Dead}
@@ -36,5 +38,6 @@ pub record CleansOnly {A E : Type 0} (rs : List RegionState) (s : Served) (t : �
   pub others : OthersStay rs s.state t rs' z.state
   pub promises : PromisesStay s t z
   pub gone : OnOk result (IsGone z.state t)
+  pub released : OnOk result (z.promised ≡ remove s.promised t)
   pub kept : OnErr result (HasKept s z)
   pub flags : FlagsStay rs rs'

@@ -91,7 +91,8 @@ fn finish(regions: &mut [Region], system: &mut System, txn: u64) -> Result<(), S
 
 /// Cleans up a transaction whose client died: takes back the operation in which it died, performs its undos, the last one
 /// first, and logs its end. An operation that another dead client left on a region in the way is taken back first; that
-/// client's transaction is dead as before, with no region latched. Nothing else of other transactions changes.
+/// client's transaction is dead as before, with no region latched. Nothing else of other transactions changes. Behind Ok what
+/// was promised to the transaction is given back.
 ///
 /// `NotDead` exactly where the transaction isn't dead, and then nothing changes. `Stopped` exactly where it is and the
 /// engine is stopped, with that cause, else `OutOfMemory` where memory for a record is refused. Behind either what was

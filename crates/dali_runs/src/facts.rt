@@ -2,7 +2,7 @@
 
 ghost use Rattle.dali_runs.specs.Facts.Facts.{HoldsItsKeys, HasItsUndos, HasCounts, RowsAreOlder, CommittedIsLogged, HoldsTheBegun, RefusalsTell, StopTells, RegionsTell};
 ghost use Rattle.dali_runs.specs.Facts.States.{StatesComeFrom};
-ghost use Rattle.dali_runs.specs.Facts.Undos.{UndosMayBePerformed};
+ghost use Rattle.dali_runs.specs.Facts.Undos.{UndosMayBePerformed, RemovalsMayBePerformed};
 ghost use Rattle.dali_runs.specs.Facts.Ends.{BeginFollows, NextIsUnbegun, CommitFollows, SoloFollows, EndFollows, EmptyEnds, OnlyThese, OthersLeave, CommitIsStep, SoloIsStep, EndIsStep, EmptyEndIsStep};
 ghost use Rattle.dali_runs.specs.Facts.Plans.{PlanGoesOn, PlanStarts, PlanAnswers, TakeBackGoesOn};
 
@@ -115,4 +115,9 @@ pub fn the_ends_of_a_transaction_are_steps()
 /// Each undo of a row may be performed: it can be spelled, its region is one of its kind, and its transaction has its key alone.
 pub fn the_undos_of_a_row_may_be_performed()
     ensures { UndosMayBePerformed }
+{}
+
+/// So may be what a committed transaction has still to free, and each of these is the undo of a removal.
+pub fn the_removals_of_a_commit_may_be_performed()
+    ensures { RemovalsMayBePerformed }
 {}

@@ -436,7 +436,7 @@ next_is_last : (us : List Pending) → next_undo us 0 ≡ last_of us
 next_is_last [] = refl
 next_is_last (u ∷ us) = ap (λ (b : Bool). if b then last_of (u ∷ us) else None) (lt-ltb 0 (length (u ∷ us)) (omega arith))
 
-answer_of_none : (g : RegionState) (e : LatchError) → g.hold ≡ None → Err e ≡ latch_answer false g → ⊥
+pub answer_of_none : (g : RegionState) (e : LatchError) → g.hold ≡ None → Err e ≡ latch_answer false g → ⊥
 answer_of_none g e none is = let free : latch_answer false g ≡ Ok tt = rw none refl in differ (is ∙ free)
   where
     differ : (let r : Result (Unit {0}) LatchError = Ok tt in Err e ≡ r) → ⊥

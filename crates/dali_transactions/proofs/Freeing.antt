@@ -1,5 +1,5 @@
 -- One removal of a committed transaction is freed, and its end is logged, as steps of a run.
-use Rattle.std.proofs.Common.{inl, inr, ◌≡◌, ℕ, true, false, List, [], ◌∷◌, ◌++◌, Option, Some, None, IfSome, refl, ap, sym, subst, ◌∙◌, slice_get, slice_set}
+use Rattle.std.proofs.Common.{inl, inr, ◌≡◌, ◌&&◌, ℕ, Bool, true, false, List, [], ◌∷◌, ◌++◌, Option, Some, None, IfSome, refl, ap, sym, subst, ◌∙◌, slice_get, slice_set}
 use Rattle.std.proofs.lemmas.List.{append-nil}
 use Rattle.dali_record.specs.declared.operations.Pending.{Pending}
 use Rattle.dali_record.specs.declared.operations.Undo.{Undo}
@@ -23,17 +23,23 @@ use Rattle.dali_runs.specs.Passes.{Audits}
 use Rattle.dali_runs.specs.Courses.{Ends, IsStep}
 use Rattle.dali_runs.specs.Facts.Ends.{IsEnding}
 use Rattle.dali_runs.proofs.FactsLemmas.Ends.{end_is_step}
+use Rattle.dali_runs.specs.Facts.Undos.{MayBePerformed}
+use Rattle.dali_runs.proofs.FactsLemmas.Undos.{removals_may_be_performed}
 use Rattle.dali_crash.specs.Traces.{bases_of}
 use Rattle.dali_core.specs.Vault.Vaulted.{Vaulted}
 use Rattle.dali_system.specs.Served.{Served}
 use Rattle.dali_calls.proofs.Operating.{steps_on}
 use Rattle.dali_calls.proofs.Others.{holds_put}
+use Rattle.dali_calls.specs.declared.single.error.StepError.{StepError}
+use Rattle.dali_calls.specs.declared.single.error.StepError.TheVariants.{Latch as LatchRefused, System as SystemRefused}
 use Rattle.dali_calls.specs.Single.Operated.{IsLeftOf}
+use Rattle.dali_calls.specs.Single.Refusals.{IsUnfreed, IsLatched}
 use Rattle.dali_calls.specs.Single.Settling.{MayFree, IsSoloOf, IsCommitted, IsLeft, Freed}
 use Rattle.dali_calls.proofs.SingleLemmas.Leading.{leads_there}
 use Rattle.dali_calls.proofs.SingleLemmas.Settled.{freed_led}
 use Rattle.std.proofs.lemmas.Bool.{and_parts}
 use Rattle.dali_lists.proofs.Lists.{set_same}
+use Rattle.dali_lists.proofs.Members.{all_weaker}
 use Rattle.dali_transactions.proofs.CoursesLemmas.Making.{own_steps_make}
 use Rattle.dali_clean.specs.Cleaned.{core, moment, AreDead, InRun}
 use Rattle.dali_clean.specs.Others.{OthersStay}
@@ -42,10 +48,10 @@ use Rattle.dali_clean.proofs.Others.{others_further}
 use Rattle.dali_transactions.specs.Ended.{Walked, Walks}
 use Rattle.dali_transactions.specs.Left.{Left, none_of, Cleared, FreesIn}
 use Rattle.dali_transactions.specs.Steps.{CommitLogs, RemovalFrees, CommitEnds}
-use Rattle.dali_transactions.specs.Guards.{is_covered, is_releasable, is_releasable_on}
-use Rattle.dali_transactions.proofs.Guarding.{releasable_dead}
+use Rattle.dali_transactions.specs.Guards.{is_covered, is_releasable, is_releasable_on, MayFreeOn, UpMayFree}
+use Rattle.dali_transactions.proofs.Guarding.{releasable_dead, none_alive}
 use Rattle.dali_transactions.proofs.Walking.{walked_more, walked_on, run_on}
-use Rattle.dali_transactions.proofs.Alone.{leads_front, settling_here, dead_still, ending_on, may_still, rows_left, left_on}
+use Rattle.dali_transactions.proofs.Alone.{answer_of_none, leads_front, settling_here, dead_still, ending_on, may_still, rows_left, left_on}
 use Rattle.dali_transactions.proofs.Standing.{run_at, come, come_log}
 use Rattle.dali_transactions.proofs.Durable.{Leaves, logged, logged_as}
 
@@ -68,6 +74,12 @@ may_free y t u removal covered =
       kind = same_kind y.sizes u removal.0 ∙ (and_parts (is_of_kind y.sizes u) (covers (lock_of y t u.key) true) covered).0;
       lock = (and_parts (is_of_kind y.sizes u) (covers (lock_of y t u.key) true) covered).1;
     }
+
+-- what the guard looks at
+pub covered_removal : (y : SystemState) (t : ℕ) (u : Pending) → MayFree y t u → is_covered y t u ≡ true
+covered_removal y t u may =
+    let kind : is_of_kind y.sizes u ≡ true = sym (same_kind y.sizes u may.removal) ∙ may.kind in
+    ap (λ (b : Bool). b && covers (lock_of y t u.key) true) kind ∙ may.lock
 
 pub releasable_one : (gs : List RegionState) (u : Pending) (g : RegionState) → is_releasable_on gs u ≡ true → slice_get gs u.region ≡ Some g → IfSome g.hold (λ h. h.dead ≡ true)
 releasable_one gs u g e at = releasable_dead g.hold (ap (λ (o : Option RegionState). is_releasable (hold_in o)) (sym at) ∙ e)
@@ -124,6 +136,12 @@ pub freed_still : (t : ℕ) (u : Pending) (gs hs : List RegionState) (s m : Serv
 freed_still t u gs hs s m z g h c committed o = ap (λ (x : SystemState). state_of x t) o.system ∙ (ap state_in c.row ∙ committed)
 
 -- ---- and of one that is refused
+-- where memory is promised that is none whose region isn't latched
+pub frees_promised : (t : ℕ) (g h : RegionState) (z : SystemState) (e : StepError) → g.hold ≡ None → IsLeftOf t g h → IsUnfreed h z e → IsLatched e → ⊥
+frees_promised t g h z (SystemRefused e) none left why never = never
+frees_promised t g h z (LatchRefused e) none (inl same) why latched = answer_of_none h e (ap (λ (k : RegionState). k.hold) same ∙ none) why
+frees_promised t g h z (LatchRefused e) none (inr back) why latched = answer_of_none h e back.2 why
+
 left_walks : (t r : ℕ) (gs : List RegionState) (y : SystemState) (g h : RegionState) → is_alive (state_of y t) ≡ true → slice_get gs r ≡ Some g → IsLeftOf t g h → Walks t none_of [] gs y (slice_set gs r h) y
 left_walks t r gs y g h alive at (inl same) bases before L v a run dead = record {
   log = L;
@@ -167,6 +185,14 @@ pub unfreed_still : (t : ℕ) (gs hs : List RegionState) (s m z : Served) → Cl
 unfreed_still t gs hs s m z c committed same = ap (λ (x : Served). state_of x.state t) same ∙ (ap state_in c.row ∙ committed)
 
 -- ---- at a point of a run
+ending_row : (us : List Pending) (o : Option TxnState) (row : Option TxnRow) → IsRow o row → o ≡ Some (Ending us) → state_in row ≡ Some Committed
+ending_row us None row is e = absurd is
+ending_row us (Some (Ending ps)) row is e = ap state_in is
+ending_row us (Some o) row is e = absurd (cc)
+
+dead_releasable_on : (gs : List RegionState) (u : Pending) → AreDead gs → is_releasable_on gs u ≡ true
+dead_releasable_on gs u dead = (and_parts (is_releasable_on gs u) true (none_alive gs (u ∷ []) dead)).0
+
 module _ {V : Type 0} (means : Ghosts V) where
   pub removal_frees : (t : ℕ) (u : Pending) (gs hs : List RegionState) (y z : SystemState) (v : Vaulted V) → FreesIn t u gs y hs z → OthersStay gs y t hs z → RemovalFrees means t u gs y v hs z
   removal_frees t u gs hs y z v frees others us s B p k ending =
@@ -183,17 +209,26 @@ module _ {V : Type 0} (means : Ghosts V) where
         ending = subst (λ (x : List Record). IsEnding y.sizes x t us) (sym l.log) (subst (λ x. IsEnding x (p.log ++ Commit t ∷ []) t us) (ap (λ (x : SystemState). x.sizes) found.1) found.2);
       }
 
-  -- ---- the end
-  ending_row : (t : ℕ) (o : Option TxnState) (row : Option TxnRow) → IsRow o row → o ≡ Some (Ending []) → state_in row ≡ Some Committed
-  ending_row t None row is e = absurd is
-  ending_row t (Some (Ending us)) row is e = ap state_in is
-  ending_row t (Some o) row is e = absurd (cc)
+  -- ---- what is left to a committed transaction
+  pub up_may_free : UpMayFree means
+  up_may_free s B p gs y v k t us ending =
+      let run = run_at means s B p gs y v k in
+      let here : RunsOn (bases_of s) p.log (core gs y p.core.vault) = runs_of (bases_of s) s.log (moment gs y p.log p.core.vault p.audits) run in
+      all_weaker (λ (u : Pending). (is_removal u.undo ≡ true) × MayBePerformed y t u) (MayFreeOn gs y t) us
+      (λ u may. record {
+        whole = run.whole.regions;
+        committed = ending_row us (txn_state y.sizes t p.log) (row_of y t) (here.table t) ending;
+        may = record { removal = may.0; spelled = may.1.spelled; kind = same_kind y.sizes u may.0 ∙ may.1.kind; lock = may.1.lock };
+        releasable = dead_releasable_on gs u k.dead;
+      })
+      (removals_may_be_performed (bases_of s) p.log (core gs y p.core.vault) here t us ending)
 
+  -- ---- the end
   ended_walked : (t : ℕ) (gs : List RegionState) (y : SystemState) (bases : Bases) (before L : List Record) (v : VaultState) (a : Audits) → InRun bases before (moment gs y L v a) → AreDead gs → y.stop ≡ None → IsEnding y.sizes L t []
       → Walked t none_of (Ended t ∷ []) (moment gs y L v a) gs (ended_logged y t)
   ended_walked t gs y bases before L v a run dead runs ending =
       let here : RunsOn bases L (core gs y v) = runs_of bases before (moment gs y L v a) run in
-      let committed : state_of y t ≡ Some Committed = ending_row t (txn_state y.sizes t L) (row_of y t) (here.table t) ending in
+      let committed : state_of y t ≡ Some Committed = ending_row [] (txn_state y.sizes t L) (row_of y t) (here.table t) ending in
       let work = settling_here bases before L gs y v a run dead t [] committed ending in
       let step : IsStep L (core gs y v) (Ends t) (L ++ Ended t ∷ []) (core gs (ended_logged y t) v) = end_is_step bases L (core gs y v) t here ending runs work.free in
       record {

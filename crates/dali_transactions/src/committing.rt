@@ -58,7 +58,7 @@ fn settle_core<V: Store>(core: &mut Core<V>, txn: u64, removals: &[Pending])
 }
 
 /// Commits a live transaction, makes its commit durable, frees for good what it removed, and logs its end. All memory that
-/// this takes is taken first. Where a dead client has latched the region of a removal, the operation in which that client died
+/// this takes is taken first, so behind its flush each answer is Ok. Where a dead client has latched the region of a removal, the operation in which that client died
 /// is taken back first, and its transaction stays dead. It makes four calls of the store.
 ///
 /// `Stopped` exactly where the engine is stopped, with that cause, or the vault is (cause: the store), and `OutOfMemory`
@@ -85,6 +85,7 @@ pub fn commit<V: Store>(core: &mut Core<V>, alloc: Global, txn: u64) -> Result<(
     ensures regions { OnErr result (core.new.regions.items ≡ core.old.regions.items) }
     ensures tells { is_some (V.told core.new.vault.store) ≡ is_some (V.told core.old.vault.store) }
     ensures unchanged { IfErr result (λ e. (e ≡ Fault → ⊥) → core.new ≡ core.old) }
+    ensures unflushed { OnErr result (core.new.vault.flushed ≡ core.old.vault.flushed) }
     ensures any_moment { core.old.vault.stopped ≡ false → (IsErrOf result OutOfMemory → ⊥) → core.old.system.state.stop ≡ None
         → Within V.told V.moment V.left_since core.old.vault core.new.vault (FlushLeaves V.may_leave (commit_logged core.old.system.state txn) core.old.vault) }
     ensures others { OthersStay core.old.regions.items core.old.system.state txn core.new.regions.items core.new.system.state }

@@ -100,7 +100,8 @@ pub fn may_end(regions: &[Region], system: &System, txn: u64) -> bool
 
 // Whether the undo puts a killed cell or entry back, one that a region has.
 fn is_removal(undo: &Undo) -> bool
-    ensures { result ≡ true → (is_removal_of undo.now ≡ true) × IsUndo undo.now }
+    ensures is { result ≡ true → (is_removal_of undo.now ≡ true) × IsUndo undo.now }
+    ensures always { is_removal_of undo.now ≡ true → IsUndo undo.now → result ≡ true }
 {
     match undo {
         Undo::ReviveCell { cell } => 1 <= *cell && *cell <= 7,
@@ -111,7 +112,8 @@ fn is_removal(undo: &Undo) -> bool
 
 // Whether the transaction is committed.
 fn is_committed(system: &System, txn: u64) -> bool
-    ensures { result ≡ true → state_of system.now.state txn ≡ Some Committed }
+    ensures is { result ≡ true → state_of system.now.state txn ≡ Some Committed }
+    ensures always { state_of system.now.state txn ≡ Some Committed → result ≡ true }
 {
     match system.state(txn) {
         Some(State::Committed) => true,
@@ -121,7 +123,8 @@ fn is_committed(system: &System, txn: u64) -> bool
 
 /// Whether a committed transaction may free the removal.
 pub fn may_free(regions: &[Region], system: &System, txn: u64, removal: &Pending) -> bool
-    ensures { result ≡ true → MayFreeOn regions.now system.now.state txn removal.now }
+    ensures is { result ≡ true → MayFreeOn regions.now system.now.state txn removal.now }
+    ensures always { MayFreeOn regions.now system.now.state txn removal.now → result ≡ true }
 {
     if regions.len() != system.geometry().regions() as usize {
         return false;

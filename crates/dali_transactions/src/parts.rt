@@ -1,12 +1,13 @@
 //! The parts of an end, over regions and system that stand apart: an operation that a dead client left open in the way is
 //! taken back, which takes no memory.
-ghost use Rattle.std.specs.Prelude.{◌≡◌, [], ◌∷◌, true, Some, None, OnOk, OnErr, IfErr, length};
+ghost use Rattle.std.specs.Prelude.{◌≡◌, [], ◌∷◌, true, Some, None, OnOk, OnErr, IfErr, IsOk, length};
 ghost use Rattle.std.specs.List.{AllByRecursion, list_all};
 ghost use Rattle.dali_geometry.specs.Places.{regions as regions_of};
 ghost use Rattle.dali_record.specs.declared.records.Record.TheVariants.{Ended};
 ghost use Rattle.dali_att.specs.declared.state.State.TheVariants.{Live, Committed};
 ghost use Rattle.dali_runs.specs.State.{state_of};
-ghost use Rattle.dali_system.specs.Promised.{promised_to};
+ghost use Rattle.dali_system.specs.Promised.{promised_to, used};
+ghost use Rattle.dali_system.specs.Served.{solo_room};
 ghost use Rattle.dali_calls.specs.Flags.{FlagsStay};
 ghost use Rattle.dali_calls.specs.Others.{IsGone};
 ghost use Rattle.dali_calls.specs.Single.Ending.{IsBackOf};
@@ -74,7 +75,8 @@ pub fn free_removals(regions: &mut [Region], system: &mut System, txn: u64, remo
     }
 }
 
-/// Frees for good one removal of a committed transaction. Where that is refused nothing is logged.
+/// Frees for good one removal of a committed transaction. Where that is refused nothing is logged. It uses what is promised to
+/// the transaction for one solo: where that is promised and the engine runs, it isn't refused.
 ///
 /// The removal is the transaction's own, the regions are all that the system has, and no client that is alive has latched the
 /// removal's: `guards::may_free` tells.
@@ -87,6 +89,9 @@ pub fn free_one(
     requires { MayFreeOn regions.old system.old.state txn removal.now }
     ensures freed { OnOk result (FreesIn txn removal.now regions.old system.old.state regions.new system.new.state) }
     ensures left { OnErr result (Left none_of [] txn regions.old system.old regions.new system.new) }
+    ensures promised { IsPromised system.old txn solo_room → IsOk result }
+    ensures uses { OnOk result (system.new.promised ≡ used system.old.promised txn solo_room) }
+    ensures unused { OnErr result (system.new.promised ≡ system.old.promised) }
     ensures others { OthersStay regions.old system.old.state txn regions.new system.new.state }
     ensures still { state_of system.new.state txn ≡ Some Committed }
     ensures locks { system.new.state.locks ≡ system.old.state.locks }

@@ -1,9 +1,14 @@
 //! A commit in steps of its own, between which others make theirs: its record; behind a flush each of its removals; its end.
-ghost use Rattle.std.specs.Prelude.{◌≡◌, [], true, false, Some, None, Err, IfSome, IfOk, OnOk, OnErr, IfErr};
+ghost use Rattle.std.specs.Prelude.{◌≡◌, ◌≤◌, [], true, false, Some, None, Err, IfSome, IfOk, IsOk, OnOk, OnErr, IfErr, length};
+ghost use Rattle.std.specs.FinMap as map;
 ghost use Rattle.dali_runs.specs.State.{state_of};
 ghost use Rattle.dali_runs.specs.Steps.{commit_logged, ended_logged};
 ghost use Rattle.dali_runs.specs.declared.causes.Cause.TheVariants.{Store as ByStore};
+ghost use Rattle.dali_system.specs.Promised.{promised_to, used};
+ghost use Rattle.dali_system.specs.Served.{solo_room};
 ghost use Rattle.dali_calls.specs.Flags.{FlagsStay};
+ghost use Rattle.dali_calls.specs.Others.{PromisesStay};
+ghost use Rattle.dali_calls.specs.Single.Settling.{IsPromised, settle_room};
 ghost use Rattle.dali_clean.specs.Others.{OthersStay};
 ghost use Rattle.dali_transactions.specs.declared.error.CommitError.TheVariants.{Stopped, OutOfMemory};
 ghost use Rattle.dali_transactions.specs.Ended.{Comes};
@@ -27,6 +32,9 @@ use std::alloc::Global;
 /// `Stopped` exactly where the engine is stopped, with that cause, or the vault is (cause: the store), and else `OutOfMemory`,
 /// where memory is refused, or where the core hasn't what each point of a run has of a live transaction. Nothing has changed
 /// then.
+///
+/// It takes all memory that is wanted behind it: what is promised to the transaction then is just enough for the solo of each
+/// removal and for its end, and so `free_removal` and `end_commit` want none, whatever others log in between.
 pub fn log_commit<V: Store>(
     core: &mut Core<V>,
     alloc: Global,
@@ -35,6 +43,8 @@ pub fn log_commit<V: Store>(
     ensures logged { OnOk result (core.new ≡ record core.old { system = core.new.system }) }
     ensures state { OnOk result (core.new.system.state ≡ commit_logged core.old.system.state txn) }
     ensures ok { IfOk result (λ removals. CommitLogs V.Store core.old.regions.items core.old.system.state core.old.vault txn removals.items) }
+    ensures promised { IfOk result (λ removals. promised_to core.new.system.promised txn ≡ settle_room (length removals.items)) }
+    ensures promises { PromisesStay core.old.system txn core.new.system }
     ensures others { OthersStay core.old.regions.items core.old.system.state txn core.new.regions.items core.new.system.state }
     ensures err { OnErr result (core.new ≡ core.old) }
     ensures stopped { IfSome core.old.system.state.stop (λ cause. result ≡ Err (Stopped cause)) }
@@ -59,7 +69,8 @@ pub fn log_commit<V: Store>(
 
 /// Frees for good one removal of a committed transaction, the first of those that are left. Where a dead client has latched its
 /// region, the operation in which that client died is taken back first, and its transaction stays dead. No call of the store
-/// is made. Where it is refused nothing is logged, and it may be asked for again.
+/// is made. Where it is refused nothing is logged, and it may be asked for again. It uses what is promised to the transaction
+/// for one solo. Where that is promised, the engine runs and the removal may be freed, it isn't refused: it wants no memory.
 pub fn free_removal<V: Store>(
     core: &mut Core<V>,
     txn: u64,
@@ -67,6 +78,9 @@ pub fn free_removal<V: Store>(
 ) -> Result<(), CommitError>
     ensures ok { OnOk result (RemovalFrees V.Store txn removal.now core.old.regions.items core.old.system.state core.old.vault core.new.regions.items core.new.system.state) }
     ensures left { OnErr result (Comes V.Store txn none_of [] core.old.regions.items core.old.system.state core.old.vault core.new.regions.items core.new.system.state) }
+    ensures promised { MayFreeOn core.old.regions.items core.old.system.state txn removal.now → IsPromised core.old.system txn solo_room → IsOk result }
+    ensures uses { OnOk result (core.new.system.promised ≡ used core.old.system.promised txn solo_room) }
+    ensures unused { OnErr result (core.new.system.promised ≡ core.old.system.promised) }
     ensures others { OthersStay core.old.regions.items core.old.system.state txn core.new.regions.items core.new.system.state }
     ensures still { state_of core.new.system.state txn ≡ state_of core.old.system.state txn }
     ensures locks { core.new.system.state.locks ≡ core.old.system.state.locks }
@@ -88,6 +102,9 @@ fn free_core<V: Store>(core: &mut Core<V>, txn: u64, removal: &Pending) -> Resul
     requires { MayFreeOn core.old.regions.items core.old.system.state txn removal.now }
     ensures freed { OnOk result (FreesIn txn removal.now core.old.regions.items core.old.system.state core.new.regions.items core.new.system.state) }
     ensures left { OnErr result (Left none_of [] txn core.old.regions.items core.old.system core.new.regions.items core.new.system) }
+    ensures promised { IsPromised core.old.system txn solo_room → IsOk result }
+    ensures uses { OnOk result (core.new.system.promised ≡ used core.old.system.promised txn solo_room) }
+    ensures unused { OnErr result (core.new.system.promised ≡ core.old.system.promised) }
     ensures others { OthersStay core.old.regions.items core.old.system.state txn core.new.regions.items core.new.system.state }
     ensures still { state_of core.new.system.state txn ≡ Some Committed }
     ensures locks { core.new.system.state.locks ≡ core.old.system.state.locks }
@@ -98,12 +115,15 @@ fn free_core<V: Store>(core: &mut Core<V>, txn: u64, removal: &Pending) -> Resul
 }
 
 /// Logs the end of a committed transaction, all of whose removals are freed: it has no row, no lock and no memory promised any
-/// more. Where it is refused nothing has changed.
+/// more. Where it is refused nothing has changed. It uses 9 of the bytes that are promised to the transaction, and gives the
+/// others back. Where these are promised and the engine runs, it isn't refused: it wants no memory.
 pub fn end_commit<V: Store>(core: &mut Core<V>, txn: u64) -> Result<(), CommitError>
     ensures ok { OnOk result (CommitEnds V.Store txn core.old.regions.items core.old.system.state core.old.vault core.new.regions.items core.new.system.state) }
     ensures state { OnOk result (core.new.system.state ≡ ended_logged core.old.system.state txn) }
     ensures rest { core.new ≡ record core.old { system = core.new.system } }
     ensures err { OnErr result (core.new ≡ core.old) }
+    ensures promised { IsPromised core.old.system txn (settle_room 0) → IsOk result }
+    ensures released { OnOk result (core.new.system.promised ≡ map.remove core.old.system.promised txn) }
     ensures memory { core.old.system.state.stop ≡ None → IfErr result (λ e. e ≡ OutOfMemory) }
 {
     match core.system.ended(txn) {

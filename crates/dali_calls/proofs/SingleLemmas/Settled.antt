@@ -326,7 +326,7 @@ pub commit_others : (y z : SystemState) (t : ℕ) → z ≡ commit_logged y t �
 commit_others y z t is = subst (λ (x : SystemState). OthersStay y t x) (sym is) (λ n e. (row_apart y.table t n committed_row e, λ k. refl))
 
 -- ---- memory that is promised
-pub promise_left : (m : Promised) (t removals : ℕ) → settle_room removals ≤ promised_to (used (insert m t (promised_for removals)) t 9) t
+pub promise_left : (m : Promised) (t removals : ℕ) → promised_to (used (insert m t (promised_for removals)) t 9) t ≡ settle_room removals
 promise_left m t removals =
     let spent = (own_changes (insert m t (promised_for removals)) t 9).1 in
     let put = (own_changes m t (promised_for removals)).0 in

@@ -11,7 +11,7 @@ ghost use Rattle.dali_runs.specs.State.{VaultState, state_of};
 ghost use Rattle.dali_runs.specs.Steps.{commit_logged};
 ghost use Rattle.dali_runs.specs.Regions.{IsOpen};
 ghost use Rattle.dali_system.specs.Refused.{stop_refusal};
-ghost use Rattle.dali_system.specs.Promised.{promised_to};
+ghost use Rattle.dali_system.specs.Promised.{promised_to, used};
 ghost use Rattle.dali_system.specs.Served.{solo_room};
 ghost use Rattle.dali_system.specs.UnderWay.{IsUnderWay};
 ghost use Rattle.dali_system.specs.declared.error.SystemError.TheVariants.{OutOfMemory as Memory};
@@ -52,7 +52,8 @@ fn write_freed(operation: &mut Operation, region: &mut Region)
 }
 
 /// Frees for good what one undo would put back, and logs its block. Answers the number that its record takes. Where that is
-/// refused the region is as before but for an operation that was taken back, and the system is as it was.
+/// refused the region is as before but for an operation that was taken back, and the system is as it was. It uses what is
+/// promised for one solo: where that is promised and the engine runs, only a latch of the region refuses it.
 pub fn free(
     removal: &Pending,
     region: &mut Region,
@@ -64,6 +65,7 @@ pub fn free(
     ensures err { OnErr result ((system.new ≡ system.old) × IsLeftOf txn region.old region.new) }
     ensures cause { IfErr result (IsUnfreed region.new system.new.state) }
     ensures promised { IsPromised system.old txn solo_room → IfErr result IsLatched }
+    ensures uses { OnOk result (system.new.promised ≡ used system.old.promised txn solo_room) }
     ensures kept { OnOk result ((n : ℕ) → IsPromised system.old txn (solo_room + n) → IsPromised system.new txn n) }
     ensures promises { PromisesStay system.old txn system.new }
 {
@@ -121,7 +123,7 @@ fn free_all(
 
 /// Commits a live transaction: memory for what follows is promised, and its commit is logged. Answers what it removed,
 /// for `settle`. The commit is durable once the system's frame is flushed. It takes memory for both, and is refused
-/// where the system has stopped, or for want of memory.
+/// where the system has stopped, or for want of memory. What is promised then is as much as `settle` uses.
 pub fn commit(alloc: Global, system: &mut System, txn: u64) -> Result<Vec<Pending>, SystemError>
     requires lives { state_of system.old.state txn ≡ Some Live }
     requires covered { AreCovered system.old.state txn }
@@ -132,7 +134,7 @@ pub fn commit(alloc: Global, system: &mut System, txn: u64) -> Result<Vec<Pendin
     ensures removals { IfOk result (λ removals. removals.items ≡ dead_of (undos_at system.old.state.table txn)) }
     ensures logged { OnOk result (system.new.state ≡ commit_logged system.old.state txn) }
     ensures committed { OnOk result (state_of system.new.state txn ≡ Some Committed) }
-    ensures promised { IfOk result (λ removals. settle_room (length removals.items) ≤ promised_to system.new.promised txn) }
+    ensures promised { IfOk result (λ removals. promised_to system.new.promised txn ≡ settle_room (length removals.items)) }
     ensures others { OthersStay system.old.state txn system.new.state }
     ensures promises { PromisesStay system.old txn system.new }
     ensures err { OnErr result (system.new ≡ system.old) }

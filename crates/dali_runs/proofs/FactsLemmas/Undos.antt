@@ -1,6 +1,6 @@
 -- Each undo of a row is that of a block of its transaction in the present epoch.
 use Rattle.std.proofs.Common.{◌≡◌, ℕ, Bool, true, false, cond, List, [], ◌∷◌, ◌++◌, Option, Some, None, refl, sym, subst, ◌∙◌}
-use Rattle.std.specs.Prelude.{◌==◌, ◌&&◌, not, ⊤, IsSome, length, slice_get}
+use Rattle.std.specs.Prelude.{◌==◌, ◌&&◌, not, ⊤, IsSome, if◌then◌else◌, length, slice_get}
 use Rattle.std.specs.List.{AllByRecursion}
 use Rattle.std.specs.Option.{option_map_or}
 use Rattle.std.proofs.lemmas.Bool.{and_parts, eqb-true}
@@ -16,7 +16,7 @@ use Rattle.dali_record.specs.Log.{Touch, touch_of, touch_at, undo_added, last_of
 use Rattle.dali_record.specs.Epochs.{Cut, cut, last_epoch}
 use Rattle.dali_record.specs.Calls.{Progress, Fresh, follow}
 use Rattle.dali_record.specs.Spelling.{CanBeSpelled, IsBlock, IsUndo, MayBeUndo, is_within, is_outcome_of, undoes}
-use Rattle.dali_record.specs.Legal.{TxnState, Unbegun, Active, Committed as Ending, Over, Working, txn_state, txn_next, allowed, either_state, goes_on, starts, forward, back, is_onward, is_level, is_answer, is_none_left, dead_of, freed, rested, Rules, rules_state}
+use Rattle.dali_record.specs.Legal.{TxnState, Unbegun, Active, Committed as Ending, Over, Working, txn_state, txn_next, allowed, either_state, goes_on, starts, forward, back, is_onward, is_level, is_answer, is_none_left, dead_of, is_removal, freed, rested, Rules, rules_state}
 use Rattle.dali_record.proofs.Ends.{by_push}
 use Rattle.dali_record.proofs.Pushes.{txn_state_push, cut_push, touch_old, touch_new, touch_within}
 use Rattle.dali_record.proofs.EpochRules.{format_first, EachTouch, IsOnKind, rules_kinds, touches_in_epochs, rules_before}
@@ -26,7 +26,7 @@ use Rattle.dali_runs.specs.State.{TxnRow, CoreState, row_of, lock_of}
 use Rattle.dali_runs.specs.Run.{Bases, RunsOn, IsRow, covers, holds}
 use Rattle.dali_runs.proofs.OneMore.{is_inside, step_inside}
 use Rattle.dali_runs.proofs.UndoKinds.{undo_kind}
-use Rattle.dali_runs.specs.Facts.Undos.{MayBePerformed, UndosMayBePerformed}
+use Rattle.dali_runs.specs.Facts.Undos.{MayBePerformed, UndosMayBePerformed, RemovalsMayBePerformed}
 use Rattle.dali_runs.proofs.FactsLemmas.KeysAndUndos.{holds_its_keys}
 
 record FromBlock (E : List Record) (t : ℕ) (u : Pending) : Type 0 where
@@ -40,8 +40,16 @@ record FromBlock (E : List Record) (t : ℕ) (u : Pending) : Type 0 where
 abbrev AllFrom : List Record → ℕ → List Pending → Type 0
 AllFrom E t us = AllByRecursion (FromBlock E t) us
 
+-- what a committed transaction still has to free: the undos of its removals
+abbrev FromRemoval : List Record → ℕ → Pending → Type 0
+FromRemoval E t u = FromBlock E t u × (is_removal u.undo ≡ true)
+
+abbrev AllRemoved : List Record → ℕ → List Pending → Type 0
+AllRemoved E t us = AllByRecursion (FromRemoval E t) us
+
 abbrev Comes : List Record → ℕ → Option TxnState → Type 0
 Comes E t (Some (Active w)) = AllFrom E t w.undos
+Comes E t (Some (Ending ps)) = AllRemoved E t ps
 Comes E t _ = ⊤
 
 -- ---- one record more
@@ -52,11 +60,23 @@ all_old : (E : List Record) (x : Record) (t : ℕ) (us : List Pending) → AllFr
 all_old E x t [] h = tt
 all_old E x t (u ∷ us) h = (from_old E x t u h.0, all_old E x t us h.1)
 
+all_removed_old : (E : List Record) (x : Record) (t : ℕ) (us : List Pending) → AllRemoved E t us → AllRemoved (E ++ x ∷ []) t us
+all_removed_old E x t [] h = tt
+all_removed_old E x t (u ∷ us) h = ((from_old E x t u h.0.0, h.0.1), all_removed_old E x t us h.1)
+
+all_dead : (E : List Record) (t : ℕ) (us : List Pending) → AllFrom E t us → AllRemoved E t (dead_of us)
+all_dead E t [] h = tt
+all_dead E t (u ∷ us) h = by_removal (is_removal u.undo) refl (all_dead E t us h.1)
+  where
+    by_removal : (b : Bool) → is_removal u.undo ≡ b → AllRemoved E t (dead_of us) → AllRemoved E t (if b then u ∷ dead_of us else dead_of us)
+    by_removal true e rest = ((h.0, e), rest)
+    by_removal false e rest = rest
+
 comes_old : (E : List Record) (x : Record) (t : ℕ) (o : Option TxnState) → Comes E t o → Comes (E ++ x ∷ []) t o
 comes_old E x t None h = tt
 comes_old E x t (Some Unbegun) h = tt
 comes_old E x t (Some (Active w)) h = all_old E x t w.undos h
-comes_old E x t (Some (Ending ps)) h = tt
+comes_old E x t (Some (Ending ps)) h = all_removed_old E x t ps h
 comes_old E x t (Some Over) h = tt
 
 pub all_dropped : (Q : Pending → Type 0) (us : List Pending) → AllByRecursion Q us → AllByRecursion Q (drop_last us)
@@ -98,9 +118,9 @@ c_back : (E : List Record) (t : ℕ) (w : Working) (q : Block) (o : Option Pendi
 c_back E t w q None h = tt
 c_back E t w q (Some p) h = c_allowed E t _ (Some (Active _)) (all_dropped (FromBlock E t) w.undos h)
 
-c_freed : (E : List Record) (t : ℕ) (q : Block) (ps : List Pending) → Comes E t (freed q ps)
-c_freed E t q [] = tt
-c_freed E t q (p ∷ ps) = c_allowed E t _ (Some (Ending ps)) tt
+c_freed : (E : List Record) (t : ℕ) (q : Block) (ps : List Pending) → AllRemoved E t ps → Comes E t (freed q ps)
+c_freed E t q [] h = tt
+c_freed E t q (p ∷ ps) h = c_allowed E t _ (Some (Ending ps)) h.1
 
 c_begin : (E : List Record) (t : ℕ) (c : Bool) (w : Working) → w.undos ≡ [] → Comes E t (Some (cond c (Active w) Unbegun))
 c_begin E t true w e = rw e tt
@@ -132,22 +152,22 @@ inside s E t (Some (Active w)) (Begin u) k h = c_allowed (E ++ Begin u ∷ []) t
 inside s E t (Some (Active w)) (Forward u q) k h = c_test (E ++ Forward u q ∷ []) t (u == t) (forward s t w q) (Some (Active w)) (forward_now s E t u w q h) (all_old E (Forward u q) t w.undos h)
 inside s E t (Some (Active w)) (Back u q) k h = c_test (E ++ Back u q ∷ []) t (u == t) (back w q (last_of w.undos)) (Some (Active w)) (λ e. c_back (E ++ Back u q ∷ []) t w q (last_of w.undos) (all_old E (Back u q) t w.undos h)) (all_old E (Back u q) t w.undos h)
 inside s E t (Some (Active w)) (Done u c a) k h = c_test (E ++ Done u c a ∷ []) t (u == t) _ (Some (Active w)) (λ e. c_allowed (E ++ Done u c a ∷ []) t (is_answer s w c a) (Some (rested w)) (all_old E (Done u c a) t w.undos h)) (all_old E (Done u c a) t w.undos h)
-inside s E t (Some (Active w)) (Commit u) k h = c_test (E ++ Commit u ∷ []) t (u == t) _ (Some (Active w)) (λ e. c_allowed (E ++ Commit u ∷ []) t (is_level w) (Some (Ending (dead_of w.undos))) tt) (all_old E (Commit u) t w.undos h)
+inside s E t (Some (Active w)) (Commit u) k h = c_test (E ++ Commit u ∷ []) t (u == t) _ (Some (Active w)) (λ e. c_allowed (E ++ Commit u ∷ []) t (is_level w) (Some (Ending (dead_of w.undos))) (all_dead (E ++ Commit u ∷ []) t w.undos (all_old E (Commit u) t w.undos h))) (all_old E (Commit u) t w.undos h)
 inside s E t (Some (Active w)) (Ended u) k h = c_test (E ++ Ended u ∷ []) t (u == t) _ (Some (Active w)) (λ e. c_allowed (E ++ Ended u ∷ []) t (is_none_left w.undos) (Some Over) tt) (all_old E (Ended u) t w.undos h)
 inside s E t (Some (Active w)) (Solo u p q) k h = c_allowed (E ++ Solo u p q ∷ []) t _ (Some (Active w)) (all_old E (Solo u p q) t w.undos h)
 inside s E t (Some (Active w)) AuditBegin k h = all_old E AuditBegin t w.undos h
 inside s E t (Some (Active w)) (AuditClean a) k h = all_old E (AuditClean a) t w.undos h
 inside s E t (Some (Active w)) (AuditFail a rs) k h = all_old E (AuditFail a rs) t w.undos h
-inside s E t (Some (Ending ps)) (Begin u) k h = c_allowed (E ++ Begin u ∷ []) t _ (Some (Ending ps)) tt
-inside s E t (Some (Ending ps)) (Forward u q) k h = c_allowed (E ++ Forward u q ∷ []) t _ (Some (Ending ps)) tt
-inside s E t (Some (Ending ps)) (Back u q) k h = c_allowed (E ++ Back u q ∷ []) t _ (Some (Ending ps)) tt
-inside s E t (Some (Ending ps)) (Done u c a) k h = c_allowed (E ++ Done u c a ∷ []) t _ (Some (Ending ps)) tt
-inside s E t (Some (Ending ps)) (Commit u) k h = c_allowed (E ++ Commit u ∷ []) t _ (Some (Ending ps)) tt
-inside s E t (Some (Ending ps)) (Ended u) k h = c_test (E ++ Ended u ∷ []) t (u == t) _ (Some (Ending ps)) (λ e. c_allowed (E ++ Ended u ∷ []) t (is_none_left ps) (Some Over) tt) tt
-inside s E t (Some (Ending ps)) (Solo u p q) k h = c_allowed (E ++ Solo u p q ∷ []) t (not (u == t)) _ (c_test (E ++ Solo u p q ∷ []) t (p == t) (freed q ps) (Some (Ending ps)) (λ e. c_freed (E ++ Solo u p q ∷ []) t q ps) tt)
-inside s E t (Some (Ending ps)) AuditBegin k h = tt
-inside s E t (Some (Ending ps)) (AuditClean a) k h = tt
-inside s E t (Some (Ending ps)) (AuditFail a rs) k h = tt
+inside s E t (Some (Ending ps)) (Begin u) k h = c_allowed (E ++ Begin u ∷ []) t _ (Some (Ending ps)) (all_removed_old E (Begin u) t ps h)
+inside s E t (Some (Ending ps)) (Forward u q) k h = c_allowed (E ++ Forward u q ∷ []) t _ (Some (Ending ps)) (all_removed_old E (Forward u q) t ps h)
+inside s E t (Some (Ending ps)) (Back u q) k h = c_allowed (E ++ Back u q ∷ []) t _ (Some (Ending ps)) (all_removed_old E (Back u q) t ps h)
+inside s E t (Some (Ending ps)) (Done u c a) k h = c_allowed (E ++ Done u c a ∷ []) t _ (Some (Ending ps)) (all_removed_old E (Done u c a) t ps h)
+inside s E t (Some (Ending ps)) (Commit u) k h = c_allowed (E ++ Commit u ∷ []) t _ (Some (Ending ps)) (all_removed_old E (Commit u) t ps h)
+inside s E t (Some (Ending ps)) (Ended u) k h = c_test (E ++ Ended u ∷ []) t (u == t) _ (Some (Ending ps)) (λ e. c_allowed (E ++ Ended u ∷ []) t (is_none_left ps) (Some Over) tt) (all_removed_old E (Ended u) t ps h)
+inside s E t (Some (Ending ps)) (Solo u p q) k h = c_allowed (E ++ Solo u p q ∷ []) t (not (u == t)) _ (c_test (E ++ Solo u p q ∷ []) t (p == t) (freed q ps) (Some (Ending ps)) (λ e. c_freed (E ++ Solo u p q ∷ []) t q ps (all_removed_old E (Solo u p q) t ps h)) (all_removed_old E (Solo u p q) t ps h))
+inside s E t (Some (Ending ps)) AuditBegin k h = all_removed_old E AuditBegin t ps h
+inside s E t (Some (Ending ps)) (AuditClean a) k h = all_removed_old E (AuditClean a) t ps h
+inside s E t (Some (Ending ps)) (AuditFail a rs) k h = all_removed_old E (AuditFail a rs) t ps h
 inside s E t (Some Over) (Begin u) k h = c_allowed (E ++ Begin u ∷ []) t _ (Some Over) tt
 inside s E t (Some Over) (Forward u q) k h = c_allowed (E ++ Forward u q ∷ []) t _ (Some Over) tt
 inside s E t (Some Over) (Back u q) k h = c_allowed (E ++ Back u q ∷ []) t _ (Some Over) tt
@@ -244,3 +264,15 @@ pub undos_may_be_performed : UndosMayBePerformed
 undos_may_be_performed bases L c run t =
     row_performed (MayBePerformed c.system t) (txn_state c.system.sizes t L) (row_of c.system t) (last_epoch L).records t (run.table t)
     (comes c.system.sizes t L run.counts.now run.counts.rules) (performed bases L c run t)
+
+-- ---- and the removals of a committed transaction
+row_of_ending : (o : Option TxnState) (row : Option TxnRow) (us : List Pending) → IsRow o row → o ≡ Some (Ending us) → IsSome row
+row_of_ending None row us i e = absurd i
+row_of_ending (Some (Ending ps)) row us i e = subst IsSome (sym i) refl
+row_of_ending (Some o) row us i e = absurd (cc)
+
+pub removals_may_be_performed : RemovalsMayBePerformed
+removals_may_be_performed bases L c run t us ending =
+    all_weaker (FromRemoval (last_epoch L).records t) (λ (u : Pending). (is_removal u.undo ≡ true) × MayBePerformed c.system t u) us
+    (λ u from. (from.1, performed bases L c run t (row_of_ending (txn_state c.system.sizes t L) (row_of c.system t) us (run.table t) ending) u from.0))
+    (subst (Comes (last_epoch L).records t) ending (comes c.system.sizes t L run.counts.now run.counts.rules))

@@ -1,4 +1,6 @@
-use Rattle.std.proofs.Common.{ap, None}
+use Rattle.std.proofs.Common.{ap, None, ◌∙◌}
+use Rattle.std.specs.FinMap.{remove}
+use Rattle.dali_system.specs.Promised.{Promised}
 use Rattle.dali_system.specs.Served.{Served}
 use Rattle.dali_calls.proofs.Flags.{flags_further}
 use Rattle.dali_calls.proofs.Others.{promises_same, promises_further}
@@ -20,6 +22,7 @@ returns-in-Ok-finish-clause-only c = record {
   others = others_further c.args.regions.now c.claim.new.regions c.finish.new.regions c.args.system.now.state c.claim.new.system.state c.finish.new.system.state c.args.txn c.claim.ensures.others c.finish.ensures.only.others;
   promises = promises_further c.args.system.now c.claim.new.system c.finish.new.system c.args.txn (promises_same c.args.system.now c.claim.new.system c.args.txn c.claim.ensures.kept.promised) c.finish.ensures.only.promises;
   gone = c.in-Ok-finish.ensures.only.gone;
+  released = c.in-Ok-finish.ensures.only.released ∙ ap (λ (m : Promised). remove m c.args.txn) c.claim.ensures.kept.promised;
   kept = tt;
   flags = flags_further c.args.regions.now c.claim.new.regions c.finish.new.regions c.claim.ensures.flags c.finish.ensures.only.flags;
 }
@@ -35,6 +38,7 @@ returns-in-Err-finish-clause-only c =
           (promises_further c.args.system.now c.claim.new.system c.finish.new.system c.args.txn (promises_same c.args.system.now c.claim.new.system c.args.txn c.claim.ensures.kept.promised) c.finish.ensures.only.promises)
           (promises_same c.finish.new.system c.mark_dead.new.self c.args.txn dead.promised);
       gone = tt;
+      released = tt;
       kept = kept_further c.args.system.now c.finish.new.system c.mark_dead.new.self (kept_further c.args.system.now c.claim.new.system c.finish.new.system c.claim.ensures.kept c.in-Err-finish.ensures.only.kept) dead;
       flags = flags_further c.args.regions.now c.claim.new.regions c.finish.new.regions c.claim.ensures.flags c.finish.ensures.only.flags;
     }
@@ -44,6 +48,7 @@ returns-in-Err-clause-only c = record {
   others = c.claim.ensures.others;
   promises = promises_same c.args.system.now c.claim.new.system c.args.txn c.claim.ensures.kept.promised;
   gone = tt;
+  released = tt;
   kept = c.claim.ensures.kept;
   flags = c.claim.ensures.flags;
 }

@@ -21,6 +21,7 @@ returns-in-Ok-ended-clause-only c = record {
   others = others_further c.args.regions.now c.take_back.new.regions c.take_back.new.regions c.args.system.now.state c.take_back.new.system.state c.ended.new.self.state c.args.txn c.take_back.ensures.others (ended_others c.take_back.new.regions c.take_back.new.system.state c.ended.new.self.state c.args.txn (ap (λ (s : Served). s.state) c.in-Ok-ended.ensures.ok));
   promises = promises_ended c.args.system.now c.ended.new.self c.args.txn (ap (λ (s : Served). s.promised) c.in-Ok-ended.ensures.ok ∙ ap (λ (m : Promised). remove m c.args.txn) c.take_back.ensures.kept.promised);
   gone = ended_gone c.take_back.new.system.state c.ended.new.self.state c.args.txn (ap (λ (s : Served). s.state) c.in-Ok-ended.ensures.ok);
+  released = ap (λ (s : Served). s.promised) c.in-Ok-ended.ensures.ok ∙ ap (λ (m : Promised). remove m c.args.txn) c.take_back.ensures.kept.promised;
   kept = tt;
   flags = c.take_back.ensures.flags;
 }
@@ -30,6 +31,7 @@ returns-in-Err-ended-clause-only c = record {
   others = others_further c.args.regions.now c.take_back.new.regions c.take_back.new.regions c.args.system.now.state c.take_back.new.system.state c.ended.new.self.state c.args.txn c.take_back.ensures.others (others_same c.take_back.new.regions c.take_back.new.regions c.take_back.new.system.state c.ended.new.self.state c.args.txn refl (ap (λ (s : Served). s.state) c.in-Err-ended.ensures.receipt.err));
   promises = promises_same c.args.system.now c.ended.new.self c.args.txn (ap (λ (s : Served). s.promised) c.in-Err-ended.ensures.receipt.err ∙ c.take_back.ensures.kept.promised);
   gone = tt;
+  released = tt;
   kept = kept_further c.args.system.now c.take_back.new.system c.ended.new.self c.take_back.ensures.kept (kept_same c.take_back.new.system c.ended.new.self c.in-Err-ended.ensures.receipt.err);
   flags = c.take_back.ensures.flags;
 }
@@ -39,6 +41,7 @@ returns-in-Err-clause-only c = record {
   others = c.take_back.ensures.others;
   promises = promises_same c.args.system.now c.take_back.new.system c.args.txn c.take_back.ensures.kept.promised;
   gone = tt;
+  released = tt;
   kept = c.take_back.ensures.kept;
   flags = c.take_back.ensures.flags;
 }

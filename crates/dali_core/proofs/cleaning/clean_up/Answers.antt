@@ -23,6 +23,7 @@ returns-in-Some-clause-only g c = record {
   others = others_same c.args.regions.now c.args.regions.now c.args.system.now.state c.args.system.now.state c.args.txn refl refl;
   promises = promises_same c.args.system.now c.args.system.now c.args.txn refl;
   gone = tt;
+  released = tt;
   kept = kept_same c.args.system.now c.args.system.now refl;
   flags = flags_same c.args.regions.now;
 }

@@ -1,4 +1,4 @@
-use Rattle.std.proofs.Common.{is_some, ◌≡◌, ◌∙◌, ◌≤◌, List, None, length, ap, sym, refl, subst, rules}
+use Rattle.std.proofs.Common.{is_some, ◌≡◌, ◌∙◌, ◌≤◌, List, None, length, ap, sym, refl, subst, rules, arith}
 use Rattle.dali_record.specs.declared.operations.Pending.{Pending}
 use Rattle.dali_record.specs.Legal.{dead_of}
 use Rattle.dali_att.specs.Table.{undos_at}
@@ -74,7 +74,7 @@ settle_core-requires-clause-promised g c =
     let runs : c.args.core.now.system.state.stop ≡ None = search rules in
     record {
       runs = stop ∙ (ap (λ (x : SystemState). x.stop) c.in-Ok.ensures.logged ∙ runs);
-      enough = subst (λ (m : Promised). settle_room (length c.deref.result.now) ≤ promised_to m c.args.txn) (sym promised) (subst (λ (ps : List Pending). settle_room (length ps) ≤ promised_to c.commit.new.system.promised c.args.txn) (sym c.deref.ensures.value) c.in-Ok.ensures.promised);
+      enough = subst (λ (m : Promised). settle_room (length c.deref.result.now) ≤ promised_to m c.args.txn) (sym promised) (subst (λ (ps : List Pending). settle_room (length ps) ≤ promised_to c.commit.new.system.promised c.args.txn) (sym c.deref.ensures.value) (let is = c.in-Ok.ensures.promised in omega (arith, is)));
     }
 
 pub returns-clause-ok : goal.returns-clause-ok
@@ -124,6 +124,11 @@ pub returns-in-Err-flush-clause-regions : goal.returns-in-Err-flush-clause-regio
 returns-in-Err-flush-clause-regions g c =
     let only = fault_only c.in-Err-flush.field-0 c.args.core.now.vault.stopped c.in-Err-flush.ensures.runs (sym c.stopped-2.ensures ∙ c.if-stopped.false) in
     ap (λ k. k.regions.items) (c.in-Err-flush.ensures.fault only).0
+
+pub returns-in-Err-flush-clause-unflushed : goal.returns-in-Err-flush-clause-unflushed
+returns-in-Err-flush-clause-unflushed g c =
+    let only = fault_only c.in-Err-flush.field-0 c.args.core.now.vault.stopped c.in-Err-flush.ensures.runs (sym c.stopped-2.ensures ∙ c.if-stopped.false) in
+    ap (λ k. k.vault.flushed) (c.in-Err-flush.ensures.fault only).0
 
 pub returns-in-Err-flush-clause-tells : goal.returns-in-Err-flush-clause-tells
 returns-in-Err-flush-clause-tells g c = c.flush.ensures.tells

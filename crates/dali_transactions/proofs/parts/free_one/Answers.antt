@@ -8,12 +8,13 @@ use Rattle.dali_calls.specs.Single.Operated.{IsLeftOf}
 use Rattle.dali_calls.specs.Single.Settling.{Freed}
 use Rattle.dali_runs.specs.Regions.{is_alive}
 use Rattle.dali_runs.specs.State.{SystemState}
-use Rattle.dali_system.specs.Served.{Served}
+use Rattle.dali_system.specs.Promised.{Promised, used}
+use Rattle.dali_system.specs.Served.{Served, solo_room}
 use Rattle.dali_calls.proofs.Flags.{flags_further, flags_set}
 use Rattle.dali_lists.proofs.Lists.{get_set}
 use Rattle.dali_transactions.proofs.Releasing.{cleared}
-use Rattle.dali_transactions.proofs.Alone.{removal_within, may_still}
-use Rattle.dali_transactions.proofs.Freeing.{releasable_one, frees_in, freed_others, freed_still, unfreed_left, unfreed_still}
+use Rattle.dali_transactions.proofs.Alone.{removal_within, may_still, promised_on}
+use Rattle.dali_transactions.proofs.Freeing.{frees_promised, releasable_one, frees_in, freed_others, freed_still, unfreed_left, unfreed_still}
 use Rattle.dali_transactions.proofs.parts.free_one.Goals as goal
 
 pub bounds-regions-place : goal.bounds-regions-place
@@ -111,3 +112,21 @@ returns-in-Err-clause-locks c =
     let at = slice_get-get_or c.args.regions.now _ _ there in
     let one = cleared c.args.regions.now c.args.system.now c.release.new.system c.args.txn _ _ c.release.new.region (ap is_alive c.requires.committed) at c.release.ensures.released c.release.ensures.promised in
     ap (λ (x : Served). x.state.locks) c.in-Err.ensures.err.0 ∙ one.locks
+
+-- ---- what is promised
+pub returns-in-Ok-clause-uses : goal.returns-in-Ok-clause-uses
+returns-in-Ok-clause-uses c = c.in-Ok.ensures.uses ∙ ap (λ (m : Promised). used m c.args.txn solo_room) c.release.ensures.promised
+
+pub returns-in-Err-clause-unused : goal.returns-in-Err-clause-unused
+returns-in-Err-clause-unused c = ap (λ (x : Served). x.promised) c.in-Err.ensures.err.0 ∙ c.release.ensures.promised
+
+pub returns-in-Err-clause-promised : goal.returns-in-Err-clause-promised
+returns-in-Err-clause-promised c = λ promised.
+    let there = removal_within c.args.regions.now c.args.system.now.state c.args.txn c.args.removal.now c.requires.whole c.requires.may in
+    let at = slice_get-get_or c.args.regions.now _ _ there in
+    let one = cleared c.args.regions.now c.args.system.now c.release.new.system c.args.txn _ _ c.release.new.region (ap is_alive c.requires.committed) at c.release.ensures.released c.release.ensures.promised in
+    let now = get_set c.args.regions.now _ _ c.release.new.region at in
+    absurd (frees_promised c.args.txn c.release.new.region c.free.new.region c.free.new.system.state c.in-Err.error c.release.ensures.unheld
+    (subst (λ (k : RegionState). IsLeftOf c.args.txn k c.free.new.region) (get_or_from_slice_get (slice_set c.args.regions.now c.args.removal.now.region c.release.new.region) c.args.removal.now.region c.release.new.region c.index-regions-place-2.result now) c.in-Err.ensures.err.1)
+    c.in-Err.ensures.cause
+    (c.in-Err.ensures.promised (promised_on c.args.txn solo_room c.args.regions.now _ c.args.system.now c.release.new.system one promised)))

@@ -1,14 +1,15 @@
-use Rattle.std.proofs.Common.{[], List, subst}
+use Rattle.std.proofs.Common.{◌≡◌, true, false, [], List, sym, subst}
 use Rattle.dali_region.specs.State.{RegionState}
 use Rattle.dali_transactions.specs.Guards.{MayFreeOn}
 use Rattle.dali_transactions.specs.Left.{none_of}
 use Rattle.dali_transactions.proofs.Standing.{comes_none, comes_left}
+use Rattle.dali_transactions.proofs.Guarding.{clash}
 use Rattle.dali_transactions.proofs.Freeing.{removal_frees}
 use Rattle.dali_transactions.proofs.steps.free_removal.Goals as goal
 
 pub free_core-requires : goal.free_core-requires
 free_core-requires g c =
-    subst (λ (rs : List RegionState). MayFreeOn rs c.args.core.now.system.state c.args.txn c.args.removal.now) c.deref.ensures.value (c.may_free.ensures c.if-not-may_free.false)
+    subst (λ (rs : List RegionState). MayFreeOn rs c.args.core.now.system.state c.args.txn c.args.removal.now) c.deref.ensures.value (c.may_free.ensures.is c.if-not-may_free.false)
 
 pub returns-then-not-may_free-clause-left : goal.returns-then-not-may_free-clause-left
 returns-then-not-may_free-clause-left g c = comes_none g.V.Store c.args.txn none_of c.args.core.now.regions.items c.args.core.now.system.state c.args.core.now.vault
@@ -18,3 +19,10 @@ returns-in-Ok-clause-ok g c = removal_frees g.V.Store c.args.txn c.args.removal.
 
 pub returns-in-Err-clause-left : goal.returns-in-Err-clause-left
 returns-in-Err-clause-left g c = comes_left g.V.Store none_of [] c.args.txn c.args.core.now.regions.items c.free_core.new.core.regions.items c.args.core.now.system c.free_core.new.core.system c.args.core.now.vault c.in-Err.ensures.left
+
+pub returns-then-not-may_free-clause-promised : goal.returns-then-not-may_free-clause-promised
+returns-then-not-may_free-clause-promised g c = λ may promised.
+    absurd (clash c.if-not-may_free.true (c.may_free.ensures.always (subst (λ (rs : List RegionState). MayFreeOn rs c.args.core.now.system.state c.args.txn c.args.removal.now) (sym c.deref.ensures.value) may)))
+
+pub returns-in-Err-clause-promised : goal.returns-in-Err-clause-promised
+returns-in-Err-clause-promised g c = λ may promised. absurd (let no : false ≡ true = c.in-Err.ensures.promised promised in cc)

@@ -41,7 +41,7 @@ pub returns-clause-promised : goal.returns-clause-promised
 returns-clause-promised c =
     let promised : c.commit.new.self.promised ≡ used (insert c.args.system.now.promised c.args.txn (promised_for (length c.in_ok-removals.removals.items))) c.args.txn 9 =
     ap (λ (s : Served). s.promised) c.in_ok-commit.ensures.ok ∙ ap (λ (s : Served). used s.promised c.args.txn 9) c.in_ok-removals.ensures.ok in
-    subst (λ (m : Promised). settle_room (length c.in_ok-removals.removals.items) ≤ promised_to m c.args.txn) (sym promised) (promise_left c.args.system.now.promised c.args.txn (length c.in_ok-removals.removals.items))
+    ap (λ (m : Promised). promised_to m c.args.txn) promised ∙ promise_left c.args.system.now.promised c.args.txn (length c.in_ok-removals.removals.items)
 
 pub returns-clause-others : goal.returns-clause-others
 returns-clause-others c =

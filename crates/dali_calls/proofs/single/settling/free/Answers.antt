@@ -22,6 +22,9 @@ returns-in-Err-solo_op-clause-err c =
 pub returns-in-Err-solo_op-clause-promised : goal.returns-in-Err-solo_op-clause-promised
 returns-in-Err-solo_op-clause-promised c = λ h. absurd (let no : false ≡ true = c.in-Err-solo_op.ensures.promised (ap stop_of h.runs) h.enough in cc)
 
+pub returns-in-Ok-solo_op-clause-uses : goal.returns-in-Ok-solo_op-clause-uses
+returns-in-Ok-solo_op-clause-uses c = ap (λ (s : Served). s.promised) c.in-Ok-solo_op.ensures.ok.0
+
 pub returns-in-Ok-solo_op-clause-kept : goal.returns-in-Ok-solo_op-clause-kept
 returns-in-Ok-solo_op-clause-kept c = λ n h. spends_one c.args.system.now c.solo_op.new.self c.args.txn n c.block.result.now c.in-Ok-solo_op.ensures.ok.0 h
 
