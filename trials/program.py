@@ -14,6 +14,14 @@ WITH_ONE_RECORD = f.files(log=f.log(f.formatted(1, 1), inserts.one_record()), an
 
 WITH_A_BEGIN = f.files(log=f.log(f.formatted(1, 1), f.batch(f.begin(1))), anchor=f.anchor())
 
+# An audit failed in region 0, so that a restart reads the log twice. At this place stands the last byte of the region's number.
+DAMAGED = f.files(log=f.log(f.formatted(1, 1), f.batch(f.audit_begin(), f.audit_fail(1, [0]))), anchor=f.anchor())
+REGION_AT = len(DAMAGED[LOG]) - 2
+
+RESTARTED = Run(lines("open"), lines("rolled back none; deleted none"))
+
+UNSTEADY = replace(RESTARTED, out=lines("store unsteady"), status=12, after="same")
+
 TWO_AND_A_LOSER = f.files(log=inserts.two_and_a_loser(), anchor=f.anchor())
 
 ONE_RECORD = Run(
@@ -156,6 +164,14 @@ CASES: Sequence[Case | Sweep] = [
     Case("a write that fails", replace(ONE_RECORD, fail_writes=[2], out="1 begin 1\n", status=5)),
     Case("a summary that can't be written", replace(GENERATED, fail_writes=[1], out="clien", status=5)),
     Case("a dump that can't be written", replace(DUMP, fail_writes=[1], out="0 for", status=5, after="same"), WITH_ONE_RECORD),
+
+    Case("a restart reads a log with a failed audit twice", RESTARTED, DAMAGED),
+    Case("a log that reads otherwise the second time", replace(UNSTEADY, unsteady=(2, REGION_AT)), DAMAGED),
+    Case("a log that reads otherwise from the first time on", replace(RESTARTED, unsteady=(0, REGION_AT)), DAMAGED),
+    Case("a log that is bad the second time",
+        replace(UNSTEADY, out=lines("bad store log 1"), status=7, unsteady=(2, 1)), DAMAGED),
+    Case("a copy of a log is read once", Run(
+        "", lines("records 0"), words="show", unsteady=(1, REGION_AT), after="same"), DAMAGED),
 
     Sweep("each read that fails is told",
         lambda read: replace(ONE_RECORD, fail_reads=[read], out=lines("read fault"), status=4, after={}),

@@ -61,6 +61,8 @@ class Run:
     """How many calls of the store pass before each one fails."""
     crash: int | None = None
     """A crash at the end: 0 keeps what was written and not synced, 1 drops it, every other choice mixes it."""
+    unsteady: tuple[int, int] | None = None
+    """A byte of the log reads as one more than it is: from the read of the log with this number on, from 0, at this place."""
 
 
 @dataclass(frozen=True)

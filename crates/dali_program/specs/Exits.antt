@@ -8,7 +8,7 @@ use Rattle.dali_arguments.specs.Meaning.{meaning}
 use Rattle.dali_record.specs.declared.records.Record.{Record}
 use Rattle.dali_record.specs.Log.{committed}
 use Rattle.dali_run.specs.declared.status.Status.{Status}
-use Rattle.dali_run.specs.declared.status.Status.TheVariants.{Done, BadWords, BadScript, TooLong, ReadFault, WriteFault, StoreFault, BadStore, Unformatted, Formatted, OutOfMemory, LogFull, TooSmall, NotLoaded}
+use Rattle.dali_run.specs.declared.status.Status.TheVariants.{Done, BadWords, BadScript, TooLong, ReadFault, WriteFault, StoreFault, BadStore, Unformatted, Formatted, OutOfMemory, LogFull, StoreUnsteady, RecordTooLong, TooSmall, NotLoaded}
 use Rattle.dali_run.specs.Ends.{Course, HasEnded, LastLine}
 use Rattle.dali_run.specs.Headline.{Kept}
 use Rattle.dali_run.specs.Survives.{IsOwn, IsHonest, Survives}
@@ -27,6 +27,8 @@ number_of Unformatted = 8
 number_of Formatted = 9
 number_of OutOfMemory = 10
 number_of (LogFull end limit) = 11
+number_of StoreUnsteady = 12
+number_of RecordTooLong = 13
 number_of TooSmall = 14
 number_of NotLoaded = 15
 

@@ -28,6 +28,8 @@ fn code_of(status: Status) -> u8
         Status::Formatted => 9,
         Status::OutOfMemory => 10,
         Status::LogFull { .. } => 11,
+        Status::StoreUnsteady => 12,
+        Status::RecordTooLong => 13,
         Status::TooSmall => 14,
         Status::NotLoaded => 15,
     }

@@ -7,7 +7,7 @@ use Rattle.dali_script.specs.declared.commands.Command.TheVariants.{Open, Restar
 use Rattle.dali_store.specs.declared.store.Store.{Ghosts}
 use Rattle.dali_transcripts.specs.Words.{Pokes, Audits, Checkpoints}
 use Rattle.dali_run.specs.declared.halt.Halt.{Halt}
-use Rattle.dali_run.specs.declared.halt.Halt.TheVariants.{BadWords, BadScript, TooLong, ReadFault, WriteFault, StoreFault, BadStore, Unformatted, Formatted, LogFull, TooSmall, NotLoaded, OutOfMemory}
+use Rattle.dali_run.specs.declared.halt.Halt.TheVariants.{BadWords, BadScript, TooLong, ReadFault, WriteFault, StoreFault, BadStore, Unformatted, Formatted, LogFull, TooSmall, NotLoaded, StoreUnsteady, RecordTooLong, OutOfMemory}
 use Rattle.dali_run.specs.declared.program.Program.{Program}
 use Rattle.dali_run.specs.declared.program.Program.TheVariants.{Up, Down}
 use Rattle.dali_run.specs.Fails.{AloneEndsIn, Breaks, Fails}
@@ -29,6 +29,8 @@ module _ {V : Type 0} (g : Ghosts V) (precheck : Bool) where
   poke_ends (BadStore file at) region word mask (Up core) f e = absurd e
   poke_ends Unformatted region word mask (Up core) f e = absurd e
   poke_ends Formatted region word mask (Up core) f e = absurd e
+  poke_ends StoreUnsteady region word mask (Up core) f e = absurd e
+  poke_ends RecordTooLong region word mask (Up core) f e = absurd e
   poke_ends (LogFull end most) region word mask (Up core) f e = absurd e
   poke_ends TooSmall region word mask (Up core) f e = absurd e
   poke_ends NotLoaded region word mask (Up core) f e = absurd e
@@ -45,6 +47,8 @@ module _ {V : Type 0} (g : Ghosts V) (precheck : Bool) where
   audit_ends (BadStore file at) (Up core) f e = absurd e
   audit_ends Unformatted (Up core) f e = absurd e
   audit_ends Formatted (Up core) f e = absurd e
+  audit_ends StoreUnsteady (Up core) f e = absurd e
+  audit_ends RecordTooLong (Up core) f e = absurd e
   audit_ends (LogFull end most) (Up core) f e = absurd e
   audit_ends TooSmall (Up core) f e = absurd e
   audit_ends NotLoaded (Up core) f e = absurd e
@@ -62,6 +66,8 @@ module _ {V : Type 0} (g : Ghosts V) (precheck : Bool) where
   checkpoint_ends (BadStore file at) (Up core) f e = absurd e
   checkpoint_ends Unformatted (Up core) f e = absurd e
   checkpoint_ends Formatted (Up core) f e = absurd e
+  checkpoint_ends StoreUnsteady (Up core) f e = absurd e
+  checkpoint_ends RecordTooLong (Up core) f e = absurd e
   checkpoint_ends (LogFull end most) (Up core) f e = absurd e
   checkpoint_ends TooSmall (Up core) f e = absurd e
   checkpoint_ends NotLoaded (Up core) f e = absurd e
@@ -87,6 +93,8 @@ module _ {V : Type 0} (g : Ghosts V) (precheck : Bool) where
   open_fails WriteFault p f e = absurd e
   open_fails (BadStore file at) p f e = e
   open_fails Unformatted p f e = e
+  open_fails StoreUnsteady p f e = e
+  open_fails RecordTooLong p f e = e
   open_fails Formatted p f e = absurd e.0
   open_fails (LogFull end most) p f e = absurd e
   open_fails TooSmall p f e = absurd e

@@ -20,7 +20,7 @@ use Rattle.dali_streams.specs.Streams.{ReadAll, ReadTooMany}
 use Rattle.dali_run.specs.declared.halt.Halt.TheVariants as halts
 use Rattle.dali_run.specs.declared.program.Program.{Program}
 use Rattle.dali_run.specs.declared.status.Status.{Status}
-use Rattle.dali_run.specs.declared.status.Status.TheVariants.{Done, BadWords, BadScript, TooLong, ReadFault, WriteFault, StoreFault, BadStore, Unformatted, Formatted, OutOfMemory, LogFull, TooSmall, NotLoaded}
+use Rattle.dali_run.specs.declared.status.Status.TheVariants.{Done, BadWords, BadScript, TooLong, ReadFault, WriteFault, StoreFault, BadStore, Unformatted, Formatted, StoreUnsteady, RecordTooLong, OutOfMemory, LogFull, TooSmall, NotLoaded}
 use Rattle.dali_run.specs.Complete.{FaultRises, FindsItsGate, IsRead, MayEnd, NoneRises, RunsComplete, StoreFaultsRise}
 use Rattle.dali_run.specs.Ends.{Course, EndsAs, HasStopped}
 use Rattle.dali_run.specs.Fails.{IsSize, Opens}
@@ -172,6 +172,9 @@ module _ {V : Type 0} (g : Ghosts V)
     may_end (BadStore file at) script read gate e honest calm =
         script_survives g reads_now counts_now limit precheck c e.mid e.count base own (BadStore file at) e.ended honest
     may_end (LogFull end most) script read gate e honest calm = e.ended
+    may_end StoreUnsteady script read gate e honest calm =
+        script_survives g reads_now counts_now limit precheck c e.mid e.count base own StoreUnsteady e.ended honest
+    may_end RecordTooLong script read gate e honest calm = tt
     may_end TooSmall script read gate e honest calm = e.ended
     may_end NotLoaded script read gate e honest calm = e.ended
     may_end Formatted script read gate e honest calm =

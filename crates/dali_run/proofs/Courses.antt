@@ -11,7 +11,7 @@ use Rattle.dali_fuse.specs.Fuse.{inner}
 use Rattle.dali_fuse.specs.declared.fuse.Fuse.{Fuse}
 use Rattle.dali_script.specs.declared.commands.Command.{Command}
 use Rattle.dali_run.specs.declared.halt.Halt.{Halt}
-use Rattle.dali_run.specs.declared.halt.Halt.TheVariants.{BadWords, BadScript, TooLong, ReadFault, WriteFault, StoreFault, BadStore, Unformatted, Formatted, LogFull, TooSmall, NotLoaded, OutOfMemory}
+use Rattle.dali_run.specs.declared.halt.Halt.TheVariants.{BadWords, BadScript, TooLong, ReadFault, WriteFault, StoreFault, BadStore, Unformatted, Formatted, LogFull, TooSmall, NotLoaded, StoreUnsteady, RecordTooLong, OutOfMemory}
 use Rattle.dali_run.specs.declared.program.Program.{Program}
 use Rattle.dali_run.specs.Program.{HoldsImages, IsDown, store_of}
 use Rattle.dali_run.specs.Scripts.{RanWhole, StoppedIn}
@@ -149,6 +149,8 @@ module _ {V : Type 0} (g : Ghosts V) (limit : ℕ) (precheck : Bool) where
   stops_in k (BadStore file at) start script count command a b d now next end within is store le r stops = stopped (BadStore file at) start script count command (k.taken a) (k.taken b) (k.taken d) now next end within is store r stops
   stops_in k Unformatted start script count command a b d now next end within is store le r stops = stopped Unformatted start script count command (k.taken a) (k.taken b) (k.taken d) now next end within is store r stops
   stops_in k Formatted start script count command a b d now next end within is store le r stops = stopped Formatted start script count command (k.taken a) (k.taken b) (k.taken d) now next end within is store r stops
+  stops_in k StoreUnsteady start script count command a b d now next end within is store le r stops = stopped StoreUnsteady start script count command (k.taken a) (k.taken b) (k.taken d) now next end within is store r stops
+  stops_in k RecordTooLong start script count command a b d now next end within is store le r stops = stopped RecordTooLong start script count command (k.taken a) (k.taken b) (k.taken d) now next end within is store r stops
   stops_in k (LogFull most place) start script count command a b d now next end within is store le r stops = stopped (LogFull most place) start script count command (k.taken a) (k.taken b) (k.taken d) now next end within is store r stops
   stops_in k TooSmall start script count command a b d now next end within is store le r stops = stopped TooSmall start script count command (k.taken a) (k.taken b) (k.taken d) now next end within is store r stops
   stops_in k NotLoaded start script count command a b d now next end within is store le r stops = stopped NotLoaded start script count command (k.taken a) (k.taken b) (k.taken d) now next end within is store r stops

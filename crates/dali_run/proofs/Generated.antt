@@ -23,7 +23,7 @@ use Rattle.dali_transcripts.specs.Words.{Said, Refused, StoppedBy}
 use Rattle.dali_core.specs.Cores.{IsNoShorter}
 use Rattle.dali_core.specs.declared.whole.Core.{Core}
 use Rattle.dali_run.specs.declared.halt.Halt.{Halt}
-use Rattle.dali_run.specs.declared.halt.Halt.TheVariants.{BadWords, BadScript, TooLong, ReadFault, WriteFault, StoreFault, BadStore, Unformatted, Formatted, LogFull, TooSmall, NotLoaded, OutOfMemory}
+use Rattle.dali_run.specs.declared.halt.Halt.TheVariants.{BadWords, BadScript, TooLong, ReadFault, WriteFault, StoreFault, BadStore, Unformatted, Formatted, LogFull, TooSmall, NotLoaded, StoreUnsteady, RecordTooLong, OutOfMemory}
 use Rattle.dali_run.specs.declared.program.Program.{Program}
 use Rattle.dali_run.specs.declared.program.Program.TheVariants.{Up, Down}
 use Rattle.dali_run.specs.Ends.{Course, EndedGenerator, Generates, course}
@@ -187,6 +187,8 @@ module _ {V : Type 0} (g : Ghosts V) (clients size number : ℕ) where
   ends_by (BadStore file at) start end by = by
   ends_by Unformatted start end by = by
   ends_by Formatted start end by = by
+  ends_by StoreUnsteady start end by = by
+  ends_by RecordTooLong start end by = by
   ends_by TooSmall start end by = by
   ends_by NotLoaded start end by = by
 
@@ -204,6 +206,8 @@ module _ {V : Type 0} (g : Ghosts V) (clients size number : ℕ) where
   refused (BadStore file at) start end run may same = absurd may
   refused Unformatted start end run may same = absurd may
   refused Formatted start end run may same = absurd may
+  refused StoreUnsteady start end run may same = absurd may
+  refused RecordTooLong start end run may same = absurd may
   refused TooSmall start end run may same = absurd may
   refused NotLoaded start end run may same = absurd may
 
@@ -274,6 +278,8 @@ module _ {V : Type 0} (g : Ghosts V) (clients size number : ℕ) where
   halts_so k (BadStore file at) start end sink ends = (ends, refl)
   halts_so k Unformatted start end sink ends = (ends, refl)
   halts_so k Formatted start end sink ends = (ends, refl)
+  halts_so k StoreUnsteady start end sink ends = (ends, refl)
+  halts_so k RecordTooLong start end sink ends = (ends, refl)
   halts_so k (LogFull place most) start end sink ends = (ends, refl)
   halts_so k OutOfMemory start end sink ends = (ends, refl)
   halts_so k TooSmall start end sink ends = (ends, refl)
@@ -292,6 +298,8 @@ module _ {V : Type 0} (g : Ghosts V) (clients size number : ℕ) where
     halted (BadStore file at) h = (h.0, ((refl, refl), h.1))
     halted Unformatted h = (h.0, ((refl, refl), h.1))
     halted Formatted h = (h.0, ((refl, refl), h.1))
+    halted StoreUnsteady h = (h.0, ((refl, refl), h.1))
+    halted RecordTooLong h = (h.0, ((refl, refl), h.1))
     halted (LogFull place most) h = (h.0, ((refl, refl), h.1))
     halted OutOfMemory h = (h.0, ((refl, refl), h.1))
     halted BadWords h = absurd (never BadWords tt start end h.0)

@@ -32,7 +32,7 @@ use Rattle.dali_run.specs.declared.halt.Halt.TheVariants as halts
 use Rattle.dali_run.specs.declared.program.Program.{Program}
 use Rattle.dali_run.specs.declared.program.Program.TheVariants.{Up, Down}
 use Rattle.dali_run.specs.declared.status.Status.{Status}
-use Rattle.dali_run.specs.declared.status.Status.TheVariants.{Done, BadWords, BadScript, TooLong, ReadFault, WriteFault, StoreFault, BadStore, Unformatted, Formatted, OutOfMemory, LogFull, TooSmall, NotLoaded}
+use Rattle.dali_run.specs.declared.status.Status.TheVariants.{Done, BadWords, BadScript, TooLong, ReadFault, WriteFault, StoreFault, BadStore, Unformatted, Formatted, StoreUnsteady, RecordTooLong, OutOfMemory, LogFull, TooSmall, NotLoaded}
 use Rattle.dali_run.specs.Ends.{Course, Ended, EndedGenerator, EndedScript, GeneratorFails, GeneratorFinds, GeneratorLoses, GeneratorStops, GeneratorWants, HasStopped, Untouched}
 use Rattle.dali_run.specs.Fails.{AloneFails, Breaks, Fails, Lost, Played, StoreFailsIn}
 use Rattle.dali_run.specs.Generating.{IsCrashed, IsCutRound, IsMade, IsPlayed}
@@ -309,6 +309,8 @@ module _ {V : Type 0} (g : Ghosts V)
     behind_honest Safe (halts.BadStore file at) command fit none old f fails calm = less_honest Safe old f fails.2.crash calm
     behind_honest Safe halts.Unformatted command fit none old f fails calm = less_honest Safe old f fails.2.crash calm
     behind_honest Safe halts.Formatted command fit none old f fails calm = less_honest Safe old f fails.2.crash calm
+    behind_honest Safe halts.StoreUnsteady command fit none old f fails calm = less_honest Safe old f fails.2.crash calm
+    behind_honest Safe halts.RecordTooLong command fit none old f fails calm = less_honest Safe old f fails.2.crash calm
     behind_honest Safe halts.BadWords command fit none old f fails calm = absurd fails
     behind_honest Safe (halts.BadScript line kind) command fit none old f fails calm = absurd fails
     behind_honest Safe halts.TooLong command fit none old f fails calm = absurd fails
@@ -474,6 +476,8 @@ module _ {V : Type 0} (g : Ghosts V)
       script_honest (BadStore file at) ended = let stop = stop_honest (halts.BadStore file at) ended in ((stop.before, stop.found), stop.behind, stop.within)
       script_honest Unformatted ended = let stop = stop_honest halts.Unformatted ended in ((stop.before, stop.found), stop.behind, stop.within)
       script_honest Formatted ended = let stop = stop_honest halts.Formatted ended in ((stop.before, tt), stop.behind, stop.within)
+      script_honest StoreUnsteady ended = let stop = stop_honest halts.StoreUnsteady ended in ((stop.before, tt), stop.behind, stop.within)
+      script_honest RecordTooLong ended = let stop = stop_honest halts.RecordTooLong ended in ((stop.before, tt), stop.behind, stop.within)
       script_honest OutOfMemory ended = let memory = memory_honest ended in ((memory.0, tt), memory.1, memory.2)
       script_honest BadWords ended = ((tt, tt), (λ d may. tt), tt)
       script_honest (BadScript line kind) ended = ((tt, tt), (λ d may. tt), tt)
@@ -563,6 +567,8 @@ module _ {V : Type 0} (g : Ghosts V)
     generator_honest mid count (BadStore file at) ended = stops_honest (halts.BadStore file at) ended.0
     generator_honest mid count Unformatted ended = stops_honest halts.Unformatted ended.0
     generator_honest mid count Formatted ended = stops_honest halts.Formatted ended.0
+    generator_honest mid count StoreUnsteady ended = stops_honest halts.StoreUnsteady ended.0
+    generator_honest mid count RecordTooLong ended = stops_honest halts.RecordTooLong ended.0
     generator_honest mid count (LogFull end most) ended = played_honest (Some (halts.LogFull end most)) ended.0.run
     generator_honest mid count OutOfMemory ended = want_honest ended.0
     generator_honest mid count BadWords ended = tt

@@ -42,7 +42,7 @@ use Rattle.dali_run.specs.declared.halt.Halt.TheVariants as halts
 use Rattle.dali_run.specs.declared.program.Program.{Program}
 use Rattle.dali_run.specs.declared.program.Program.TheVariants.{Up, Down}
 use Rattle.dali_run.specs.declared.status.Status.{Status}
-use Rattle.dali_run.specs.declared.status.Status.TheVariants.{Done, BadWords, BadScript, TooLong, ReadFault, WriteFault, StoreFault, BadStore, Unformatted, Formatted, OutOfMemory, LogFull, TooSmall, NotLoaded}
+use Rattle.dali_run.specs.declared.status.Status.TheVariants.{Done, BadWords, BadScript, TooLong, ReadFault, WriteFault, StoreFault, BadStore, Unformatted, Formatted, StoreUnsteady, RecordTooLong, OutOfMemory, LogFull, TooSmall, NotLoaded}
 use Rattle.dali_run.specs.Ends.{Course, Ended, EndedGenerator, EndedScript, GeneratorFails, GeneratorFinds, GeneratorIsRefused, GeneratorLoses, GeneratorStops, GeneratorWants, HasStopped, Untouched}
 use Rattle.dali_run.specs.Generating.{FailsIn, IsCrashed, IsCutRound, IsMade, IsPlayed}
 use Rattle.dali_run.specs.Headline.{oks_of, KeepsIn, IsAnswer, HasKept, Keeps, KeepsLeft, KeepsWhere, KeepsWithin, KeepsBetween, KeptAt, KeptWithin, KeptLost, KeptBroken, KeptAlone, KeptFailed, KeptFailing, SafeWithin, oks_by, Restores, Answers, Along, StoppedKeeps, WantingKeeps, ScriptKeeps, KeepsSince, KeepsOn, oks_played, PlayedKeeps, CrashedKeeps, FoundKeeps, LastKeeps, StopKeeps, RefusedKeeps, LostKeeps, FaultKeeps, WantKeeps, GeneratorKeeps, Kept, AcknowledgedSurvive, WorkedLinesAcknowledge}
@@ -360,6 +360,8 @@ module _ {V : Type 0} (g : Ghosts V)
     failing_keeps Safe kept (halts.BadStore file at) command fit old f fails known = reads_keep Safe kept command old f fails.2 known
     failing_keeps Safe kept halts.Unformatted command fit old f fails known = reads_keep Safe kept command old f fails.2 known
     failing_keeps Safe kept halts.Formatted command fit old f fails known = reads_keep Safe kept command old f fails.2 known
+    failing_keeps Safe kept halts.StoreUnsteady command fit old f fails known = reads_keep Safe kept command old f fails.2 known
+    failing_keeps Safe kept halts.RecordTooLong command fit old f fails known = reads_keep Safe kept command old f fails.2 known
     failing_keeps Safe kept halts.BadWords command fit old f fails known = absurd fails
     failing_keeps Safe kept (halts.BadScript line kind) command fit old f fails known = absurd fails
     failing_keeps Safe kept halts.TooLong command fit old f fails known = absurd fails
@@ -377,6 +379,8 @@ module _ {V : Type 0} (g : Ghosts V)
     other_fails Safe kept (halts.BadStore file at) command fit none old f fails known = reads_keep Safe kept command old f fails.2 known
     other_fails Safe kept halts.Unformatted command fit none old f fails known = reads_keep Safe kept command old f fails.2 known
     other_fails Safe kept halts.Formatted command fit none old f fails known = reads_keep Safe kept command old f fails.2 known
+    other_fails Safe kept halts.StoreUnsteady command fit none old f fails known = reads_keep Safe kept command old f fails.2 known
+    other_fails Safe kept halts.RecordTooLong command fit none old f fails known = reads_keep Safe kept command old f fails.2 known
     other_fails Safe kept halts.BadWords command fit none old f fails known = absurd fails
     other_fails Safe kept (halts.BadScript line kind) command fit none old f fails known = absurd fails
     other_fails Safe kept halts.TooLong command fit none old f fails known = absurd fails
@@ -473,6 +477,8 @@ module _ {V : Type 0} (g : Ghosts V)
       script_keeps (BadStore file at) ended = stopped (halts.BadStore file at) ended
       script_keeps Unformatted ended = stopped halts.Unformatted ended
       script_keeps Formatted ended = stopped halts.Formatted ended
+      script_keeps StoreUnsteady ended = stopped halts.StoreUnsteady ended
+      script_keeps RecordTooLong ended = stopped halts.RecordTooLong ended
       script_keeps OutOfMemory ended = wanting ended
       script_keeps (LogFull end most) ended = absurd ended
       script_keeps TooSmall ended = absurd ended
@@ -509,6 +515,8 @@ module _ {V : Type 0} (g : Ghosts V)
   crash_less (halts.BadStore file at) choice old f fails = absurd fails.0
   crash_less halts.Unformatted choice old f fails = absurd fails.0
   crash_less halts.Formatted choice old f fails = absurd fails.0
+  crash_less halts.StoreUnsteady choice old f fails = absurd fails.0
+  crash_less halts.RecordTooLong choice old f fails = absurd fails.0
   crash_less halts.BadWords choice old f fails = absurd fails
   crash_less (halts.BadScript line kind) choice old f fails = absurd fails
   crash_less halts.TooLong choice old f fails = absurd fails
@@ -735,6 +743,8 @@ module _ {V : Type 0} (g : Ghosts V)
     generator_keeps (BadStore file at) ended back = absurd back
     generator_keeps Unformatted ended back = absurd back
     generator_keeps Formatted ended back = formatted_keeps ended.0 back
+    generator_keeps StoreUnsteady ended back = absurd back
+    generator_keeps RecordTooLong ended back = stop_keeps halts.RecordTooLong ended.0 back
     generator_keeps (LogFull end most) ended back = refused_keeps (halts.LogFull end most) ended.0 back
     generator_keeps OutOfMemory ended back = want_keeps ended.0 back
     generator_keeps BadWords ended back = absurd ended

@@ -5,7 +5,7 @@ use Rattle.dali_arguments.specs.declared.task.Task.TheVariants.{Run, Generate, D
 use Rattle.dali_inspect.specs.declared.inspecting.Inspection.{Inspection}
 use Rattle.dali_store.specs.declared.store.Store.{Ghosts}
 use Rattle.dali_run.specs.declared.status.Status.{Status}
-use Rattle.dali_run.specs.declared.status.Status.TheVariants.{Done, BadWords, BadScript, TooLong, ReadFault, WriteFault, StoreFault, BadStore, Unformatted, Formatted, OutOfMemory, LogFull, TooSmall, NotLoaded}
+use Rattle.dali_run.specs.declared.status.Status.TheVariants.{Done, BadWords, BadScript, TooLong, ReadFault, WriteFault, StoreFault, BadStore, Unformatted, Formatted, StoreUnsteady, RecordTooLong, OutOfMemory, LogFull, TooSmall, NotLoaded}
 use Rattle.dali_run.specs.Ends.{Course, Ended, EndedDump, EndedGenerator, EndedLoad, EndedLook, EndedNone, EndedScript}
 use Rattle.dali_run.specs.Looking.{TellsRecords, TellsStatus}
 
@@ -25,6 +25,8 @@ module _ {V : Type 0} (g : Ghosts V)
   of_script precheck limit (BadStore file at) e = e
   of_script precheck limit Unformatted e = e
   of_script precheck limit Formatted e = e
+  of_script precheck limit StoreUnsteady e = e
+  of_script precheck limit RecordTooLong e = e
   of_script precheck limit OutOfMemory e = e
   of_script precheck limit (LogFull end most) e = e
   of_script precheck limit TooSmall e = e
@@ -41,6 +43,8 @@ module _ {V : Type 0} (g : Ghosts V)
   of_generator clients size number (BadStore file at) e = e
   of_generator clients size number Unformatted e = e
   of_generator clients size number Formatted e = e
+  of_generator clients size number StoreUnsteady e = e
+  of_generator clients size number RecordTooLong e = e
   of_generator clients size number OutOfMemory e = e
   of_generator clients size number (LogFull end most) e = e
   of_generator clients size number TooSmall e = e
@@ -57,6 +61,8 @@ module _ {V : Type 0} (g : Ghosts V)
   of_dump (BadStore file at) e = e
   of_dump Unformatted e = e
   of_dump Formatted e = e
+  of_dump StoreUnsteady e = e
+  of_dump RecordTooLong e = e
   of_dump OutOfMemory e = e
   of_dump (LogFull end most) e = e
   of_dump TooSmall e = e
@@ -73,6 +79,8 @@ module _ {V : Type 0} (g : Ghosts V)
   of_look P (BadStore file at) e = e
   of_look P Unformatted e = e
   of_look P Formatted e = e
+  of_look P StoreUnsteady e = e
+  of_look P RecordTooLong e = e
   of_look P OutOfMemory e = e
   of_look P (LogFull end most) e = e
   of_look P TooSmall e = e
@@ -89,6 +97,8 @@ module _ {V : Type 0} (g : Ghosts V)
   of_load index heap (BadStore file at) e = e
   of_load index heap Unformatted e = e
   of_load index heap Formatted e = e
+  of_load index heap StoreUnsteady e = e
+  of_load index heap RecordTooLong e = e
   of_load index heap OutOfMemory e = e
   of_load index heap (LogFull end most) e = e
   of_load index heap TooSmall e = e
@@ -105,6 +115,8 @@ module _ {V : Type 0} (g : Ghosts V)
   of_none (BadStore file at) e = e
   of_none Unformatted e = e
   of_none Formatted e = e
+  of_none StoreUnsteady e = e
+  of_none RecordTooLong e = e
   of_none OutOfMemory e = e
   of_none (LogFull end most) e = e
   of_none TooSmall e = e

@@ -20,7 +20,7 @@ use Rattle.dali_runs.specs.Run.{log_in}
 use Rattle.dali_run.specs.declared.halt.Halt.{Halt}
 use Rattle.dali_run.specs.declared.halt.Halt.TheVariants as halts
 use Rattle.dali_run.specs.declared.status.Status.{Status}
-use Rattle.dali_run.specs.declared.status.Status.TheVariants.{Done, BadWords, BadScript, TooLong, ReadFault, WriteFault, StoreFault, BadStore, Unformatted, Formatted, OutOfMemory, LogFull, TooSmall, NotLoaded}
+use Rattle.dali_run.specs.declared.status.Status.TheVariants.{Done, BadWords, BadScript, TooLong, ReadFault, WriteFault, StoreFault, BadStore, Unformatted, Formatted, StoreUnsteady, RecordTooLong, OutOfMemory, LogFull, TooSmall, NotLoaded}
 use Rattle.dali_run.specs.Ends.{Course, EndedLoad, LoadStops}
 use Rattle.dali_run.specs.Honest.{is_poke, pokes}
 use Rattle.dali_run.specs.Loading.{Disproved, HasRows, Loads, NothingDone, NotFoundRows, NotLoads, RunsBadly, StoreStops}
@@ -76,6 +76,7 @@ module _ {V : Type 0} (g : Ghosts V)
   not_looked base halts.StoreFault old new none own = read_on base old new none.0 own
   not_looked base (halts.BadStore file at) old new none own = read_on base old new none.0 own
   not_looked base halts.Unformatted old new none own = read_on base old new none.0 own
+  not_looked base halts.RecordTooLong old new none own = read_on base old new none.0 own
   not_looked base halts.OutOfMemory old new none own = read_on base old new none.0 own
   not_looked base _ old new none own = absurd none
 
@@ -178,6 +179,8 @@ module _ {V : Type 0} (g : Ghosts V)
     loaded_own mid count (BadStore file at) ended = stop_own (halts.BadStore file at) mid ended
     loaded_own mid count Unformatted ended = stop_own halts.Unformatted mid ended
     loaded_own mid count Formatted ended = stop_own halts.Formatted mid ended
+    loaded_own mid count StoreUnsteady ended = stop_own halts.StoreUnsteady mid ended
+    loaded_own mid count RecordTooLong ended = stop_own halts.RecordTooLong mid ended
     loaded_own mid count (LogFull end most) ended = stop_own (halts.LogFull end most) mid ended
     loaded_own mid count TooSmall ended = stop_own halts.TooSmall mid ended
     loaded_own mid count NotLoaded ended = stop_own halts.NotLoaded mid ended

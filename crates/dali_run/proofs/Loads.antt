@@ -9,7 +9,7 @@ use Rattle.dali_streams.specs.Streams.{Appends, AppendsSome}
 use Rattle.dali_streams.specs.declared.streams.Sink.{Ghosts as SinkGhosts}
 use Rattle.dali_streams.specs.declared.streams.Source.{Ghosts as SourceGhosts}
 use Rattle.dali_run.specs.declared.halt.Halt.{Halt}
-use Rattle.dali_run.specs.declared.halt.Halt.TheVariants.{BadWords, BadScript, TooLong, ReadFault, WriteFault, StoreFault, BadStore, Unformatted, Formatted, LogFull, TooSmall, NotLoaded, OutOfMemory}
+use Rattle.dali_run.specs.declared.halt.Halt.TheVariants.{BadWords, BadScript, TooLong, ReadFault, WriteFault, StoreFault, BadStore, Unformatted, Formatted, LogFull, TooSmall, NotLoaded, StoreUnsteady, RecordTooLong, OutOfMemory}
 use Rattle.dali_run.specs.Ends.{EndedLoad, course}
 use Rattle.dali_run.specs.Halts.{status_in, status_of}
 use Rattle.dali_run.specs.Loading.{Disproved, HasRows, Loads, NoRows, NothingDone, NotLoads, RunsBadly, StoreStops, count_text}
@@ -42,6 +42,8 @@ module _ {V K : Type 0} (g : Ghosts V) (k : SinkGhosts K) (limit : ℕ) (prechec
   stops_in_memory (BadStore file at) other none stops = kept (BadStore file at) none stops
   stops_in_memory Unformatted other none stops = kept Unformatted none stops
   stops_in_memory Formatted other none stops = kept Formatted none stops
+  stops_in_memory StoreUnsteady other none stops = kept StoreUnsteady none stops
+  stops_in_memory RecordTooLong other none stops = kept RecordTooLong none stops
   stops_in_memory (LogFull place most) other none stops = kept (LogFull place most) none stops
   stops_in_memory TooSmall other none stops = kept TooSmall none stops
   stops_in_memory NotLoaded other none stops = kept NotLoaded none stops
@@ -116,6 +118,8 @@ module _ {V S K : Type 0} (g : Ghosts V) (s : SourceGhosts S) (k : SinkGhosts K)
   not_ended rows (BadStore file at) sink start end has not = (rows, has, not, refl)
   not_ended rows Unformatted sink start end has not = (rows, has, not, refl)
   not_ended rows Formatted sink start end has not = (rows, has, not, refl)
+  not_ended rows StoreUnsteady sink start end has not = (rows, has, not, refl)
+  not_ended rows RecordTooLong sink start end has not = (rows, has, not, refl)
   not_ended rows (LogFull place most) sink start end has not = (rows, has, not, refl)
   not_ended rows TooSmall sink start end has not = (rows, has, not, refl)
   not_ended rows NotLoaded sink start end has not = (rows, has, not, refl)

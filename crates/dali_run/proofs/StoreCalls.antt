@@ -22,6 +22,7 @@ use Rattle.dali_store.specs.declared.store.FileName.{FileName}
 use Rattle.dali_store.specs.Faults.{Rose}
 use Rattle.dali_store.specs.Store.{Files}
 use Rattle.dali_store.specs.declared.store.Store.{Ghosts}
+use Rattle.dali_inspect.specs.Inspected.{IsTooLong}
 use Rattle.dali_run.specs.declared.halt.Halt.{Halt}
 use Rattle.dali_run.specs.declared.halt.Halt.TheVariants.{OutOfMemory}
 use Rattle.dali_run.specs.declared.program.Program.{Program}
@@ -68,6 +69,8 @@ module _ {V : Type 0} (g : Ghosts V) (precheck : Bool) where
     pub bad : (file : FileName) (at : ℕ) → e ≡ errors.BadStore file at → IfSome (told_in g old) (λ fs. IsBadAnywhere fs file at)
     pub unformatted : e ≡ errors.Unformatted → IfSome (told_in g old) (λ fs. IsUnformatted fs.log)
     pub formatted : e ≡ errors.Formatted → ⊥
+    pub long : e ≡ errors.TooLong → IfSome (told_in g old) IsTooLong
+    pub steady : e ≡ errors.Unsteady → told_in g old ≡ None
     pub reads : (e ≡ errors.Fault → ⊥) → (e ≡ errors.OutOfMemory → ⊥) → Reads old f
     pub fault : e ≡ errors.Fault → Rose (faults_in g old) (faults_in g f)
     pub kept : (e ≡ errors.Fault → ⊥) → Keeps old f
@@ -79,8 +82,8 @@ module _ {V : Type 0} (g : Ghosts V) (precheck : Bool) where
   refused (errors.BadStore file at) p f r few = (tt, r.bad file at refl, r.reads (λ e. absurd cc) (λ e. absurd cc), r.kept (λ e. absurd cc))
   refused errors.Unformatted p f r few = (tt, r.unformatted refl, r.reads (λ e. absurd cc) (λ e. absurd cc), r.kept (λ e. absurd cc))
   refused errors.Formatted p f r few = absurd (r.formatted refl)
-  refused errors.TooLong p f r few = (r.left, λ le. r.kept (λ e. absurd cc))
-  refused errors.Unsteady p f r few = (r.left, λ le. r.kept (λ e. absurd cc))
+  refused errors.TooLong p f r few = (tt, r.long refl, r.reads (λ e. absurd cc) (λ e. absurd cc), r.kept (λ e. absurd cc))
+  refused errors.Unsteady p f r few = (tt, r.steady refl, r.reads (λ e. absurd cc) (λ e. absurd cc), r.kept (λ e. absurd cc))
   refused errors.OutOfMemory p f r few = (r.left, λ le. r.kept (λ e. absurd cc))
 
   pub restart_fails : (e : RestartError) (halt : Halt) (failed : ℕ) (p : Program V) (f : Fuse V) → failed ≡ failed_of (store_of p) → HaltsWith e failed (failed_of f) halt

@@ -25,7 +25,7 @@ use Rattle.dali_run.specs.declared.halt.Halt.TheVariants as halts
 use Rattle.dali_run.specs.declared.program.Program.{Program}
 use Rattle.dali_run.specs.declared.program.Program.TheVariants.{Up}
 use Rattle.dali_run.specs.declared.status.Status.{Status}
-use Rattle.dali_run.specs.declared.status.Status.TheVariants.{Done, BadWords, BadScript, TooLong, ReadFault, WriteFault, StoreFault, BadStore, Unformatted, Formatted, OutOfMemory, LogFull, TooSmall, NotLoaded}
+use Rattle.dali_run.specs.declared.status.Status.TheVariants.{Done, BadWords, BadScript, TooLong, ReadFault, WriteFault, StoreFault, BadStore, Unformatted, Formatted, StoreUnsteady, RecordTooLong, OutOfMemory, LogFull, TooSmall, NotLoaded}
 use Rattle.dali_run.specs.Dumping.{NotDumped}
 use Rattle.dali_run.specs.Looking.{NotLooked, TellsRecords, TellsStatus}
 use Rattle.dali_inspect.specs.declared.inspecting.Inspection.{Inspection}
@@ -40,7 +40,7 @@ use Rattle.dali_run.proofs.Fit.{right_blocks}
 use Rattle.dali_run.proofs.Honest.{Calm, behind_honest, calm_crashed, calm_down, calm_played, found_honest, loss_honest, played_honest, some_read}
 use Rattle.dali_run.proofs.Rising.{never_stops}
 use Rattle.dali_run.proofs.LoadOwn.{loaded_own}
-use Rattle.dali_run.proofs.Surviving.{Onward, begins_down, begins_then, fails_own, made_first, never_bad as bad_never, none_down, none_yet, own_all, own_same, own_store, script_survives, step_goes, step_logs}
+use Rattle.dali_run.proofs.Surviving.{Onward, begins_down, begins_then, fails_own, made_first, never_bad as bad_never, none_down, none_yet, own_all, own_same, own_store, own_tells, script_survives, step_goes, step_logs}
 
 none_first : (x : Record) (L : List Record) → [] ≡ x ∷ L → ⊥
 none_first x L same = absurd (cc same)
@@ -226,6 +226,14 @@ module _ {V : Type 0} (g : Ghosts V)
           (none_yet g reads_now counts_now (NoneEscapesIn AnyFiles restart.0.crashed) crashed.log (inner (store_of restart.0.crashed))
           (own_store g AnyFiles crashed.log restart.0.crashed crashed.point) (to_found restart.0) restart.1.fails.1)
 
+      -- nor do they read otherwise the second time
+      never_unsteady : (s : GeneratorStops g clients size number halts.StoreUnsteady c.store c.store') → ⊥
+      never_unsteady (inl first) = first.2.fails.0
+      never_unsteady (inr (inl crash)) = crash.1.fails.0
+      never_unsteady (inr (inr restart)) =
+          let crashed = to_crashed restart.0 in
+          own_tells g AnyFiles crashed.log restart.0.crashed crashed.point restart.1.fails.1
+
       -- a database stood there from the beginning
       formatted : (s : GeneratorStops g clients size number halts.Formatted c.store c.store') → IsOwn g base c.store'
       formatted (inl first) = stops halts.Formatted (inl first)
@@ -253,6 +261,8 @@ module _ {V : Type 0} (g : Ghosts V)
       generator_survives mid count (BadStore file at) ended = never_bad file at ended.0
       generator_survives mid count Unformatted ended = never_unformatted ended.0
       generator_survives mid count Formatted ended = formatted ended.0
+      generator_survives mid count StoreUnsteady ended = never_unsteady ended.0
+      generator_survives mid count RecordTooLong ended = stops halts.RecordTooLong ended.0
       generator_survives mid count (LogFull end most) ended = played (Some (halts.LogFull end most)) ended.0.run ended.0.store
       generator_survives mid count OutOfMemory ended = want ended.0
       generator_survives mid count BadWords ended = absurd ended
@@ -287,6 +297,7 @@ module _ {V : Type 0} (g : Ghosts V)
     not_looked halts.StoreFault none = read_on base c.store c.store' none.0 own
     not_looked (halts.BadStore file at) none = read_on base c.store c.store' none.0 own
     not_looked halts.Unformatted none = read_on base c.store c.store' none.0 own
+    not_looked halts.RecordTooLong none = read_on base c.store c.store' none.0 own
     not_looked halts.OutOfMemory none = read_on base c.store c.store' none.0 own
     not_looked _ none = absurd none
 
@@ -296,6 +307,7 @@ module _ {V : Type 0} (g : Ghosts V)
     looked P mid count StoreFault ended = not_looked halts.StoreFault ended.0
     looked P mid count (BadStore file at) ended = not_looked (halts.BadStore file at) ended.0
     looked P mid count Unformatted ended = not_looked halts.Unformatted ended.0
+    looked P mid count RecordTooLong ended = not_looked halts.RecordTooLong ended.0
     looked P mid count OutOfMemory ended = not_looked halts.OutOfMemory ended.0
     looked P mid count _ ended = absurd ended
 

@@ -72,7 +72,7 @@ use Rattle.dali_run.specs.declared.halt.Halt.TheVariants as halts
 use Rattle.dali_run.specs.declared.program.Program.{Program}
 use Rattle.dali_run.specs.declared.program.Program.TheVariants.{Up, Down}
 use Rattle.dali_run.specs.declared.status.Status.{Status}
-use Rattle.dali_run.specs.declared.status.Status.TheVariants.{Done, BadWords, BadScript, TooLong, ReadFault, WriteFault, StoreFault, BadStore, Unformatted, Formatted, OutOfMemory, LogFull, TooSmall, NotLoaded}
+use Rattle.dali_run.specs.declared.status.Status.TheVariants.{Done, BadWords, BadScript, TooLong, ReadFault, WriteFault, StoreFault, BadStore, Unformatted, Formatted, StoreUnsteady, RecordTooLong, OutOfMemory, LogFull, TooSmall, NotLoaded}
 use Rattle.dali_run.specs.Ends.{Course, EndedScript, HasStopped, Untouched}
 use Rattle.dali_run.specs.Fails.{AloneFails, Breaks, Fails, IsBadFor, Lost, StoreFailsIn}
 use Rattle.dali_run.specs.Program.{IsDown, store_of, told_in, leaves_in, moment_in, since_in, faults_in, fused}
@@ -200,6 +200,10 @@ module _ {V : Type 0} (g : Ghosts V) where
       → IsOwnWhere g (NoneEscapesIn Safe p) base (inner (store_of p))
   own_store Safe base (Up core) a = stands_own base core a.start a.batches a.point a.begins.stands a.placed a.history (subst (BeginsWith base) a.flushed (begins_all base)) a.tells
   own_store Safe base (Down store) a = a
+
+  -- such a store tells its contents
+  pub own_tells : (Safe : Disk → Type 0) (base : List Record) (p : Program V) → IsAPoint g Safe base p → told_in g (store_of p) ≡ None → ⊥
+  own_tells Safe base p a none = absurd (cc (own_store Safe base p a).0 none)
 
   pub own_same : (base : List Record) (a b : V) → a ≡ b → IsOwn g base a → IsOwn g base b
   own_same base a b same own = subst (IsOwn g base) same own
@@ -938,6 +942,10 @@ module _ {V : Type 0} (g : Ghosts V)
         only_read_own (NoneEscapesIn Safe old) base (store_of old) f fails.2 (own_store g Safe base old a)
     fails_own Safe halts.Formatted command fit base old f fails a =
         only_read_own (NoneEscapesIn Safe old) base (store_of old) f fails.2 (own_store g Safe base old a)
+    fails_own Safe halts.StoreUnsteady command fit base old f fails a =
+        only_read_own (NoneEscapesIn Safe old) base (store_of old) f fails.2 (own_store g Safe base old a)
+    fails_own Safe halts.RecordTooLong command fit base old f fails a =
+        only_read_own (NoneEscapesIn Safe old) base (store_of old) f fails.2 (own_store g Safe base old a)
     fails_own Safe halts.BadWords command fit base old f fails a = absurd fails
     fails_own Safe (halts.BadScript line kind) command fit base old f fails a = absurd fails
     fails_own Safe halts.TooLong command fit base old f fails a = absurd fails
@@ -990,6 +998,14 @@ module _ {V : Type 0} (g : Ghosts V)
           let gone = there base c.store stopped.0 stops.count stops.text stops.state stops.run own honest in
           never_bad stops.command (NoneEscapesIn safe stops.state) gone.log (inner (store_of stops.state)) file at (own_store g safe gone.log stops.state gone.point) found stops.fails.1
 
+      never_unsteady : (stopped : HasStopped g limit precheck halts.StoreUnsteady c mid)
+          → NoneEscapesStopped g limit precheck c mid count halts.StoreUnsteady stopped → ⊥
+      never_unsteady stopped honest =
+          let stops = stopped.2 in
+          let safe = safe_there stopped.0 stops.count stops.text stops.state stops.run in
+          let gone = there base c.store stopped.0 stops.count stops.text stops.state stops.run own honest in
+          own_tells g safe gone.log stops.state gone.point stops.fails.1
+
       memory_survives : (o : Untouched c mid ⊎ HasStopped g limit precheck halts.OutOfMemory c mid)
           → NoneEscapesWanting g limit precheck c mid count o
           → MemorySurvives g limit precheck c mid count base o
@@ -1029,6 +1045,8 @@ module _ {V : Type 0} (g : Ghosts V)
       script_survives (BadStore file at) ended honest = never_bad_store file at ended honest.0 honest.1
       script_survives Unformatted ended honest = unformatted_survives ended honest.0 honest.1
       script_survives Formatted ended honest = stop_survives halts.Formatted ended honest.0
+      script_survives StoreUnsteady ended honest = never_unsteady ended honest.0
+      script_survives RecordTooLong ended honest = stop_survives halts.RecordTooLong ended honest.0
       script_survives OutOfMemory ended honest = memory_survives ended honest.0
       script_survives (LogFull end most) ended honest = absurd ended
       script_survives TooSmall ended honest = absurd ended

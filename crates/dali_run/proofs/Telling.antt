@@ -32,7 +32,7 @@ use Rattle.dali_run.specs.declared.program.Program.TheVariants.{Up, Down}
 use Rattle.dali_run.specs.declared.halt.Halt.{Halt}
 use Rattle.dali_run.specs.declared.halt.Halt.TheVariants as halts
 use Rattle.dali_run.specs.declared.status.Status.{Status}
-use Rattle.dali_run.specs.declared.status.Status.TheVariants.{Done, BadWords, BadScript, TooLong, ReadFault, WriteFault, StoreFault, BadStore, Unformatted, Formatted, OutOfMemory, LogFull, TooSmall, NotLoaded}
+use Rattle.dali_run.specs.declared.status.Status.TheVariants.{Done, BadWords, BadScript, TooLong, ReadFault, WriteFault, StoreFault, BadStore, Unformatted, Formatted, StoreUnsteady, RecordTooLong, OutOfMemory, LogFull, TooSmall, NotLoaded}
 use Rattle.dali_run.specs.Ends.{Course, EndedScript, HasStopped, Untouched}
 use Rattle.dali_run.specs.Masks.{list_in, poke_in, answer_in, done_on, masks_of, xor_of, has_any, AreTold, NamesOf, IsNone, NamesTold, ShowsNone, NamesBy, TellsBy, VerifiesNone, masks_behind, AllNamed, AllTold, NamedThere, ToldThere, BeforeHalt, BeforeWant, OfRun, StraysAreNamed, PokesAreTold}
 use Rattle.dali_run.specs.Program.{told_in}
@@ -382,6 +382,8 @@ module _ {V : Type 0} (g : Ghosts V)
     script_told (BadStore file at) ended honest = before_it (halts.BadStore file at) ended honest
     script_told Unformatted ended honest = before_it halts.Unformatted ended honest
     script_told Formatted ended honest = before_it halts.Formatted ended honest
+    script_told StoreUnsteady ended honest = before_it halts.StoreUnsteady ended honest
+    script_told RecordTooLong ended honest = before_it halts.RecordTooLong ended honest
     script_told OutOfMemory ended honest = memory_told ended honest
     script_told BadWords ended honest = tt
     script_told (BadScript line kind) ended honest = tt
@@ -412,6 +414,8 @@ module _ {V : Type 0} (g : Ghosts V)
     script_named (BadStore file at) ended = named_before (halts.BadStore file at) ended
     script_named Unformatted ended = named_before halts.Unformatted ended
     script_named Formatted ended = named_before halts.Formatted ended
+    script_named StoreUnsteady ended = named_before halts.StoreUnsteady ended
+    script_named RecordTooLong ended = named_before halts.RecordTooLong ended
     script_named OutOfMemory ended = named_wanting ended
     script_named BadWords ended = tt
     script_named (BadScript line kind) ended = tt

@@ -8,7 +8,7 @@
 --     GeneratorFaultRises          so it is in the command that ended a generated run so, its round too
 --     GeneratorFaultsRise          of each generated run over files of this program
 --     NoneRises                    no count rose: the source's, the sink's, and the store's in the command that ended the run
---     MayEnd status                a run to its end, or memory was refused
+--     MayEnd status                a run to its end, or memory was refused, or the record of a restart would be too long
 --     RunsComplete                 so ends each run that reads a script whose gate is found, over files of this program, where no count rises
 use Rattle.std.specs.Prelude.{◌≡◌, ◌⊎◌, ◌<◌, ◌≤◌, ℕ, ◌+◌, ◌^◌, Bool, List, ◌∷◌, Option, Some, IfSome, length}
 use Rattle.std.proofs.Common.{inl, inr}
@@ -24,7 +24,7 @@ use Rattle.dali_store.specs.Faults.{Rose}
 use Rattle.dali_store.specs.declared.store.Store.{Ghosts}
 use Rattle.dali_run.specs.declared.halt.Halt.TheVariants as halts
 use Rattle.dali_run.specs.declared.status.Status.{Status}
-use Rattle.dali_run.specs.declared.status.Status.TheVariants.{Done, StoreFault, OutOfMemory}
+use Rattle.dali_run.specs.declared.status.Status.TheVariants.{Done, StoreFault, RecordTooLong, OutOfMemory}
 use Rattle.dali_run.specs.Ends.{Course, EndedScript, EndsAs, GeneratorFails, GeneratorStops, HasStopped}
 use Rattle.dali_run.specs.Program.{faults_in, store_of}
 use Rattle.dali_run.specs.Survives.{IsOwn, NoneEscapesBefore, ScriptIsHonest}
@@ -38,6 +38,7 @@ pub record IsRead {V : Type 0} (c : Course V) (script : List Command) : Type 0 w
 abbrev pub MayEnd : Status → Type 0
 MayEnd Done = Unit {0}
 MayEnd OutOfMemory = Unit {0}
+MayEnd RecordTooLong = Unit {0}
 MayEnd _ = ⊥
 
 module _ {V : Type 0} (g : Ghosts V) where

@@ -22,7 +22,7 @@ use Rattle.dali_core.specs.declared.whole.Core.{Core}
 use Rattle.dali_run.specs.declared.halt.Halt.{Halt}
 use Rattle.dali_run.specs.declared.halt.Halt.TheVariants as halts
 use Rattle.dali_run.specs.declared.status.Status.{Status}
-use Rattle.dali_run.specs.declared.status.Status.TheVariants.{Done, BadWords, BadScript, TooLong, ReadFault, WriteFault, StoreFault, BadStore, Unformatted, Formatted, OutOfMemory, LogFull, TooSmall, NotLoaded}
+use Rattle.dali_run.specs.declared.status.Status.TheVariants.{Done, BadWords, BadScript, TooLong, ReadFault, WriteFault, StoreFault, BadStore, Unformatted, Formatted, StoreUnsteady, RecordTooLong, OutOfMemory, LogFull, TooSmall, NotLoaded}
 use Rattle.dali_run.specs.Dumping.{Dumps, NotDumped}
 use Rattle.dali_run.specs.Generating.{IsFound, IsLost, Summarizes, RefusedIn, NotFound, EndedBy}
 use Rattle.dali_run.specs.Halts.{last_line}
@@ -106,6 +106,8 @@ module _ {V : Type 0} (g : Ghosts V) (limit : ℕ) (precheck : Bool) where
   EndedScript c mid count (BadStore file at) = HasStopped (halts.BadStore file at) c mid
   EndedScript c mid count Unformatted = HasStopped halts.Unformatted c mid
   EndedScript c mid count Formatted = HasStopped halts.Formatted c mid
+  EndedScript c mid count StoreUnsteady = HasStopped halts.StoreUnsteady c mid
+  EndedScript c mid count RecordTooLong = HasStopped halts.RecordTooLong c mid
   EndedScript c mid count OutOfMemory = Untouched c mid ⊎ HasStopped halts.OutOfMemory c mid
   -- the words have a meaning, and no command of a script ends it for want of room
   EndedScript c mid count BadWords = ⊥
@@ -153,6 +155,8 @@ module _ {V : Type 0} (g : Ghosts V) where
     EndedGenerator c mid count (BadStore file at) = GeneratorStops (halts.BadStore file at) c.store c.store' × Silent c mid
     EndedGenerator c mid count Unformatted = GeneratorStops halts.Unformatted c.store c.store' × Silent c mid
     EndedGenerator c mid count Formatted = GeneratorStops halts.Formatted c.store c.store' × Silent c mid
+    EndedGenerator c mid count StoreUnsteady = GeneratorStops halts.StoreUnsteady c.store c.store' × Silent c mid
+    EndedGenerator c mid count RecordTooLong = GeneratorStops halts.RecordTooLong c.store c.store' × Silent c mid
     EndedGenerator c mid count (LogFull end most) = GeneratorIsRefused (halts.LogFull end most) c.store c.store' × Silent c mid
     EndedGenerator c mid count OutOfMemory = GeneratorWants c.store c.store' × Silent c mid
     EndedGenerator c mid count _ = ⊥
@@ -173,6 +177,7 @@ module _ {V : Type 0} (g : Ghosts V) where
     EndedLook c mid count StoreFault = NotLooked g halts.StoreFault c.store c.store' × Silent c mid
     EndedLook c mid count (BadStore file at) = NotLooked g (halts.BadStore file at) c.store c.store' × Silent c mid
     EndedLook c mid count Unformatted = NotLooked g halts.Unformatted c.store c.store' × Silent c mid
+    EndedLook c mid count RecordTooLong = NotLooked g halts.RecordTooLong c.store c.store' × Silent c mid
     EndedLook c mid count OutOfMemory = NotLooked g halts.OutOfMemory c.store c.store' × Silent c mid
     EndedLook c mid count _ = ⊥
 
@@ -193,6 +198,8 @@ module _ {V : Type 0} (g : Ghosts V) where
     EndedLoad c mid count (BadStore file at) = LoadStops (halts.BadStore file at) c mid
     EndedLoad c mid count Unformatted = LoadStops halts.Unformatted c mid
     EndedLoad c mid count Formatted = LoadStops halts.Formatted c mid
+    EndedLoad c mid count StoreUnsteady = LoadStops halts.StoreUnsteady c mid
+    EndedLoad c mid count RecordTooLong = LoadStops halts.RecordTooLong c mid
     EndedLoad c mid count (LogFull end most) = LoadStops (halts.LogFull end most) c mid
     EndedLoad c mid count TooSmall = LoadStops halts.TooSmall c mid
     EndedLoad c mid count NotLoaded = LoadStops halts.NotLoaded c mid

@@ -12,12 +12,13 @@
 --     LooksAtFiles                those that read the files
 --     IsBadFor command fs file at the files are bad at this place, as this command finds
 --     Fails halt command old f    a command that ends the run with this
-use Rattle.std.specs.Prelude.{◌≡◌, ◌⊎◌, ◌<◌, ◌≤◌, ℕ, Bool, true, List, IfSome, map}
+use Rattle.std.specs.Prelude.{◌≡◌, ◌⊎◌, ◌<◌, ◌≤◌, ℕ, Bool, true, List, None, IfSome, map}
 use Rattle.std.specs.List.{list_any}
 use Rattle.dali_log.specs.Batch.{IsUnformatted}
 use Rattle.dali_log.specs.Log.{BadAt}
 use Rattle.dali_log.specs.Reads.{OnlyReads}
 use Rattle.dali_transcripts.specs.Clients.Said.{Transcribed}
+use Rattle.dali_inspect.specs.Inspected.{IsTooLong}
 use Rattle.dali_fuse.specs.Fuse.{inner, failed_of}
 use Rattle.dali_fuse.specs.declared.fuse.Fuse.{Fuse}
 use Rattle.dali_restart.specs.declared.error.RestartError.{RestartError}
@@ -35,7 +36,7 @@ use Rattle.dali_transcripts.specs.Transcripts.{Told}
 use Rattle.dali_core.specs.declared.whole.Core.{Core}
 use Rattle.dali_core.specs.Cores.{IsNoShorter}
 use Rattle.dali_run.specs.declared.halt.Halt.{Halt}
-use Rattle.dali_run.specs.declared.halt.Halt.TheVariants.{StoreFault, BadStore, Unformatted, Formatted, OutOfMemory}
+use Rattle.dali_run.specs.declared.halt.Halt.TheVariants.{StoreFault, BadStore, Unformatted, Formatted, StoreUnsteady, RecordTooLong, OutOfMemory}
 use Rattle.dali_run.specs.declared.program.Program.{Program}
 use Rattle.dali_run.specs.declared.program.Program.TheVariants.{Up, Down}
 use Rattle.dali_run.specs.Halts.{halt_of_restart}
@@ -180,5 +181,8 @@ module _ {V : Type 0} (g : Ghosts V) (precheck : Bool) where
       Opens command × IfSome (told_in g (store_of old)) (λ fs. IsUnformatted fs.log) × OnlyRead (store_of old) f × KeepsCount (store_of old) f
   Fails Formatted command old f =
       IsSize command × IfSome (told_in g (store_of old)) (λ fs. IsUnformatted fs.log → ⊥) × OnlyRead (store_of old) f × KeepsCount (store_of old) f
+  -- of a store that tells its contents the first one never comes
+  Fails StoreUnsteady command old f = Opens command × (told_in g (store_of old) ≡ None) × OnlyRead (store_of old) f × KeepsCount (store_of old) f
+  Fails RecordTooLong command old f = Opens command × IfSome (told_in g (store_of old)) IsTooLong × OnlyRead (store_of old) f × KeepsCount (store_of old) f
   Fails OutOfMemory command old f = Breaks command old f
   Fails _ command old f = ⊥

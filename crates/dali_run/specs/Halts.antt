@@ -26,21 +26,20 @@ use Rattle.dali_run.specs.declared.halt.Halt.TheVariants as halts
 use Rattle.dali_run.specs.declared.status.Status.{Status}
 use Rattle.dali_run.specs.declared.status.Status.TheVariants as statuses
 
--- no text says that the record of a restart is too long, or that a store gave other bytes when it was read again
 abbrev pub halt_of_restart : RestartError → Halt
 halt_of_restart restarts.Fault = halts.StoreFault
 halt_of_restart (restarts.BadStore file at) = halts.BadStore file at
 halt_of_restart restarts.Unformatted = halts.Unformatted
 halt_of_restart restarts.Formatted = halts.Formatted
-halt_of_restart restarts.TooLong = halts.OutOfMemory
-halt_of_restart restarts.Unsteady = halts.OutOfMemory
+halt_of_restart restarts.TooLong = halts.RecordTooLong
+halt_of_restart restarts.Unsteady = halts.StoreUnsteady
 halt_of_restart restarts.OutOfMemory = halts.OutOfMemory
 
 abbrev pub halt_of_inspection : InspectError → Halt
 halt_of_inspection inspections.StoreFault = halts.StoreFault
 halt_of_inspection (inspections.BadStore file at) = halts.BadStore file at
 halt_of_inspection inspections.Unformatted = halts.Unformatted
-halt_of_inspection inspections.TooLong = halts.OutOfMemory
+halt_of_inspection inspections.TooLong = halts.RecordTooLong
 halt_of_inspection inspections.OutOfMemory = halts.OutOfMemory
 
 abbrev pub halt_of_script : ScriptError → Halt
@@ -72,6 +71,8 @@ status_of halts.StoreFault = statuses.StoreFault
 status_of (halts.BadStore file at) = statuses.BadStore file at
 status_of halts.Unformatted = statuses.Unformatted
 status_of halts.Formatted = statuses.Formatted
+status_of halts.StoreUnsteady = statuses.StoreUnsteady
+status_of halts.RecordTooLong = statuses.RecordTooLong
 status_of (halts.LogFull end limit) = statuses.LogFull end limit
 status_of halts.OutOfMemory = statuses.OutOfMemory
 status_of halts.TooSmall = statuses.TooSmall
@@ -88,6 +89,8 @@ last_line statuses.StoreFault = codes "store fault\n"
 last_line (statuses.BadStore file at) = codes "bad store " ++ (name_of file ++ (codes " " ++ (decimal at ++ codes "\n")))
 last_line statuses.Unformatted = codes "unformatted\n"
 last_line statuses.Formatted = codes "formatted\n"
+last_line statuses.StoreUnsteady = codes "store unsteady\n"
+last_line statuses.RecordTooLong = codes "record too long\n"
 last_line statuses.OutOfMemory = codes "out of memory\n"
 last_line statuses.TooSmall = codes "too small\n"
 last_line statuses.NotLoaded = codes "not loaded\n"

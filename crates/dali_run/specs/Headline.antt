@@ -65,7 +65,7 @@ use Rattle.dali_run.specs.declared.halt.Halt.TheVariants as halts
 use Rattle.dali_run.specs.declared.program.Program.{Program}
 use Rattle.dali_run.specs.declared.program.Program.TheVariants.{Up, Down}
 use Rattle.dali_run.specs.declared.status.Status.{Status}
-use Rattle.dali_run.specs.declared.status.Status.TheVariants.{Done, WriteFault, StoreFault, BadStore, Unformatted, Formatted, OutOfMemory, LogFull}
+use Rattle.dali_run.specs.declared.status.Status.TheVariants.{Done, WriteFault, StoreFault, BadStore, Unformatted, Formatted, StoreUnsteady, RecordTooLong, OutOfMemory, LogFull}
 use Rattle.dali_run.specs.Ends.{Course, Ended, EndedGenerator, EndedScript, GeneratorFails, GeneratorFinds, GeneratorIsRefused, GeneratorLoses, GeneratorStops, GeneratorWants, HasEnded, HasStopped, Untouched}
 use Rattle.dali_run.specs.Fails.{AloneFails, Breaks, Fails, Lost, StoreFailsIn}
 use Rattle.dali_run.specs.Generating.{IsCrashed, IsPlayed}
@@ -234,6 +234,8 @@ module _ {V : Type 0} (g : Ghosts V) (limit : ℕ) (precheck : Bool) where
     ScriptKeeps (BadStore file at) ended = StoppedKeeps (halts.BadStore file at) ended
     ScriptKeeps Unformatted ended = StoppedKeeps halts.Unformatted ended
     ScriptKeeps Formatted ended = StoppedKeeps halts.Formatted ended
+    ScriptKeeps StoreUnsteady ended = StoppedKeeps halts.StoreUnsteady ended
+    ScriptKeeps RecordTooLong ended = StoppedKeeps halts.RecordTooLong ended
     ScriptKeeps OutOfMemory ended = WantingKeeps ended
     ScriptKeeps _ ended = KeepsLeft g kept c.store'
 
@@ -309,6 +311,7 @@ module _ {V : Type 0} (g : Ghosts V) where
       GeneratorKeeps WriteFault ended = LastKeeps kept c.store c.store' ended.1.found ended.1.run
       GeneratorKeeps StoreFault ended = FaultKeeps kept c.store c.store' ended.0
       GeneratorKeeps Formatted ended = KeepsOn kept c.store c.store'
+      GeneratorKeeps RecordTooLong ended = StopKeeps kept c.store c.store' halts.RecordTooLong ended.0
       GeneratorKeeps (LogFull end most) ended = RefusedKeeps kept c.store c.store' (halts.LogFull end most) ended.0
       GeneratorKeeps OutOfMemory ended = WantKeeps kept c.store c.store' ended.0
       GeneratorKeeps _ ended = ⊥

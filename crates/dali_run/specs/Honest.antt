@@ -42,7 +42,7 @@ use Rattle.dali_run.specs.declared.halt.Halt.TheVariants as halts
 use Rattle.dali_run.specs.declared.program.Program.{Program}
 use Rattle.dali_run.specs.declared.program.Program.TheVariants.{Up, Down}
 use Rattle.dali_run.specs.declared.status.Status.{Status}
-use Rattle.dali_run.specs.declared.status.Status.TheVariants.{Done, WriteFault, StoreFault, BadStore, Unformatted, Formatted, OutOfMemory, LogFull}
+use Rattle.dali_run.specs.declared.status.Status.TheVariants.{Done, WriteFault, StoreFault, BadStore, Unformatted, Formatted, StoreUnsteady, RecordTooLong, OutOfMemory, LogFull}
 use Rattle.dali_run.specs.Ends.{Course, Ended, EndedGenerator, EndedScript, GeneratorFails, GeneratorFinds, GeneratorLoses, GeneratorStops, GeneratorWants, HasEnded, HasStopped, Untouched}
 use Rattle.dali_run.specs.Fails.{AloneFails, Breaks, Fails, Lost, StoreFailsIn}
 use Rattle.dali_run.specs.Generating.{IsCutRound, IsPlayed}
@@ -153,6 +153,8 @@ module _ {V : Type 0} (g : Ghosts V) (limit : ℕ) (precheck : Bool) where
     RoundsEscapeNone (BadStore file at) ended = HaltEscapesNone (halts.BadStore file at) ended
     RoundsEscapeNone Unformatted ended = HaltEscapesNone halts.Unformatted ended
     RoundsEscapeNone Formatted ended = HaltEscapesNone halts.Formatted ended
+    RoundsEscapeNone StoreUnsteady ended = HaltEscapesNone halts.StoreUnsteady ended
+    RoundsEscapeNone RecordTooLong ended = HaltEscapesNone halts.RecordTooLong ended
     RoundsEscapeNone OutOfMemory ended = WantEscapesNone ended
     RoundsEscapeNone _ ended = Unit {0}
 
@@ -176,6 +178,8 @@ module _ {V : Type 0} (g : Ghosts V) (limit : ℕ) (precheck : Bool)
   SafeAtEnd (BadStore file at) ended = SafeByHalt (halts.BadStore file at) ended
   SafeAtEnd Unformatted ended = SafeByHalt halts.Unformatted ended
   SafeAtEnd Formatted ended = SafeByHalt halts.Formatted ended
+  SafeAtEnd StoreUnsteady ended = SafeByHalt halts.StoreUnsteady ended
+  SafeAtEnd RecordTooLong ended = SafeByHalt halts.RecordTooLong ended
   SafeAtEnd OutOfMemory ended = SafeByWant ended
   SafeAtEnd _ ended = AnyFiles
 
@@ -220,6 +224,8 @@ module _ {V : Type 0} (g : Ghosts V) where
       GeneratorIsHonest (BadStore file at) ended = GeneratorStopIsHonest (halts.BadStore file at) c.store c.store' ended.0
       GeneratorIsHonest Unformatted ended = GeneratorStopIsHonest halts.Unformatted c.store c.store' ended.0
       GeneratorIsHonest Formatted ended = GeneratorStopIsHonest halts.Formatted c.store c.store' ended.0
+      GeneratorIsHonest StoreUnsteady ended = GeneratorStopIsHonest halts.StoreUnsteady c.store c.store' ended.0
+      GeneratorIsHonest RecordTooLong ended = GeneratorStopIsHonest halts.RecordTooLong c.store c.store' ended.0
       GeneratorIsHonest (LogFull end most) ended = PlayedIsHonest c.store (Some (halts.LogFull end most)) ended.0.run
       GeneratorIsHonest OutOfMemory ended = WantIsHonest ended.0
       GeneratorIsHonest _ ended = Unit {0}

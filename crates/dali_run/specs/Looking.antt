@@ -20,11 +20,11 @@ use Rattle.dali_report.specs.Lines.{text_of, texts}
 use Rattle.dali_report.specs.declared.printed.Line.TheVariants as lines
 use Rattle.dali_restart.specs.Restarting.{IsBadAnywhere}
 use Rattle.dali_inspect.specs.Counts.{cells_in_use, entries_in_use}
-use Rattle.dali_inspect.specs.Inspected.{IsInspected}
+use Rattle.dali_inspect.specs.Inspected.{IsInspected, IsTooLong}
 use Rattle.dali_inspect.specs.declared.inspecting.Image.{Image}
 use Rattle.dali_inspect.specs.declared.inspecting.Inspection.{Inspection}
 use Rattle.dali_run.specs.declared.halt.Halt.{Halt}
-use Rattle.dali_run.specs.declared.halt.Halt.TheVariants.{StoreFault, BadStore, Unformatted, OutOfMemory}
+use Rattle.dali_run.specs.declared.halt.Halt.TheVariants.{StoreFault, BadStore, Unformatted, RecordTooLong, OutOfMemory}
 use Rattle.dali_run.specs.Dumping.{Reads}
 use Rattle.dali_run.specs.Texts.{shown}
 
@@ -76,5 +76,6 @@ module _ {V : Type 0} (g : Ghosts V) where
   NotLooked StoreFault old new = Reads g old new × Rose (g.faults old) (g.faults new)
   NotLooked (BadStore file at) old new = Reads g old new × (g.faults new ≡ g.faults old) × IfSome (g.told old) (λ fs. IsBadAnywhere fs file at)
   NotLooked Unformatted old new = Reads g old new × (g.faults new ≡ g.faults old) × IfSome (g.told old) (λ fs. IsUnformatted fs.log)
+  NotLooked RecordTooLong old new = Reads g old new × (g.faults new ≡ g.faults old) × IfSome (g.told old) IsTooLong
   NotLooked OutOfMemory old new = Reads g old new × (g.faults new ≡ g.faults old)
   NotLooked _ old new = ⊥

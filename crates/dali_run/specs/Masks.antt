@@ -45,7 +45,7 @@ use Rattle.dali_run.specs.declared.halt.Halt.TheVariants as halts
 use Rattle.dali_run.specs.declared.program.Program.{Program}
 use Rattle.dali_run.specs.declared.program.Program.TheVariants.{Up, Down}
 use Rattle.dali_run.specs.declared.status.Status.{Status}
-use Rattle.dali_run.specs.declared.status.Status.TheVariants.{Done, WriteFault, StoreFault, BadStore, Unformatted, Formatted, OutOfMemory}
+use Rattle.dali_run.specs.declared.status.Status.TheVariants.{Done, WriteFault, StoreFault, BadStore, Unformatted, Formatted, StoreUnsteady, RecordTooLong, OutOfMemory}
 use Rattle.dali_run.specs.Ends.{Course, EndedScript, EndsAs, HasStopped, Untouched}
 use Rattle.dali_run.specs.Program.{store_of}
 use Rattle.dali_run.specs.Run.{HasRun, RunsAll}
@@ -224,6 +224,8 @@ module _ {V : Type 0} (g : Ghosts V) (limit : ℕ) (precheck : Bool) where
     OfRun (BadStore file at) ended = BeforeHalt (halts.BadStore file at) ended
     OfRun Unformatted ended = BeforeHalt halts.Unformatted ended
     OfRun Formatted ended = BeforeHalt halts.Formatted ended
+    OfRun StoreUnsteady ended = BeforeHalt halts.StoreUnsteady ended
+    OfRun RecordTooLong ended = BeforeHalt halts.RecordTooLong ended
     OfRun OutOfMemory ended = BeforeWant ended
     OfRun _ ended = Unit {0}
 

@@ -58,7 +58,7 @@ use Rattle.dali_run.specs.declared.halt.Halt.TheVariants as halts
 use Rattle.dali_run.specs.declared.program.Program.{Program}
 use Rattle.dali_run.specs.declared.program.Program.TheVariants.{Up, Down}
 use Rattle.dali_run.specs.declared.status.Status.{Status}
-use Rattle.dali_run.specs.declared.status.Status.TheVariants.{Done, WriteFault, StoreFault, BadStore, Unformatted, Formatted, OutOfMemory, LogFull}
+use Rattle.dali_run.specs.declared.status.Status.TheVariants.{Done, WriteFault, StoreFault, BadStore, Unformatted, Formatted, StoreUnsteady, RecordTooLong, OutOfMemory, LogFull}
 use Rattle.dali_run.specs.Ends.{Course, Ended, EndedGenerator, EndedScript, GeneratorFails, GeneratorFinds, GeneratorLoses, GeneratorStops, GeneratorWants, HasEnded, HasStopped, Untouched}
 use Rattle.dali_run.specs.Fails.{AloneFails, Breaks, Fails, Lost, StoreFailsIn}
 use Rattle.dali_run.specs.Generating.{IsCrashed, IsPlayed}
@@ -275,6 +275,8 @@ module _ {V : Type 0} (g : Ghosts V) (limit : ℕ) (precheck : Bool) where
     NoneEscapesBefore (BadStore file at) ended = NoneEscapesStopped (halts.BadStore file at) ended
     NoneEscapesBefore Unformatted ended = NoneEscapesStopped halts.Unformatted ended
     NoneEscapesBefore Formatted ended = NoneEscapesStopped halts.Formatted ended
+    NoneEscapesBefore StoreUnsteady ended = NoneEscapesStopped halts.StoreUnsteady ended
+    NoneEscapesBefore RecordTooLong ended = NoneEscapesStopped halts.RecordTooLong ended
     NoneEscapesBefore OutOfMemory ended = NoneEscapesWanting ended
     NoneEscapesBefore _ ended = Unit {0}
 
@@ -306,7 +308,7 @@ module _ {V : Type 0} (g : Ghosts V) (limit : ℕ) (precheck : Bool) where
       MemorySurvives (inl untouched) = NoneRan
       MemorySurvives (inr stopped) = HaltSurvives halts.OutOfMemory stopped
 
-      -- such files are never bad, and where there is no database nothing was committed
+      -- such files are never bad and read the same each time, and where there is no database nothing was committed
       abbrev pub ScriptSurvives : (status : Status) → EndedScript g limit precheck c mid count status → Type 0
       ScriptSurvives Done ended = WholeSurvives base c.store ended.0 c.taken mid c.store' ended.2
       ScriptSurvives WriteFault ended = CutSurvives base c.store ended.1.0 c.taken mid c.store' ended.1.2
@@ -314,6 +316,8 @@ module _ {V : Type 0} (g : Ghosts V) (limit : ℕ) (precheck : Bool) where
       ScriptSurvives (BadStore file at) ended = ⊥
       ScriptSurvives Unformatted ended = (survives : HaltSurvives halts.Unformatted ended) × (survives.base' ≡ [])
       ScriptSurvives Formatted ended = HaltSurvives halts.Formatted ended
+      ScriptSurvives StoreUnsteady ended = ⊥
+      ScriptSurvives RecordTooLong ended = HaltSurvives halts.RecordTooLong ended
       ScriptSurvives OutOfMemory ended = MemorySurvives ended
       ScriptSurvives (LogFull end limit) ended = ⊥
       ScriptSurvives _ ended = NoneRan
@@ -383,6 +387,7 @@ module _ {V : Type 0} (g : Ghosts V) where
       GeneratorSurvives WriteFault ended = FoundBack ended.1.found ended.1.run
       GeneratorSurvives StoreFault ended = FaultBack ended.0
       GeneratorSurvives Formatted ended = IsOwn g base c.store'
+      GeneratorSurvives RecordTooLong ended = StopBack halts.RecordTooLong ended.0
       GeneratorSurvives (LogFull end most) ended = PlayedBack (Some (halts.LogFull end most)) ended.0.run
       GeneratorSurvives OutOfMemory ended = WantBack ended.0
       GeneratorSurvives _ ended = ⊥

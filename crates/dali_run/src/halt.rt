@@ -33,8 +33,13 @@ pub enum Halt {
     Unformatted,
     /// A database was to be made, and the log has one.
     Formatted,
+    /// A restart read the store more than once, and it gave other bytes then.
+    StoreUnsteady,
+    /// The record of a restart would have more than the 2^30 bytes of a batch.
+    RecordTooLong,
     /// The log has no room for a command: `end` is where it ends with the records that wait, `limit` how far it may go.
     LogFull { end: u64, limit: u64 },
+    /// Memory was wanted and refused.
     OutOfMemory,
     /// The regions have no room for the rows of the source.
     TooSmall,
@@ -108,8 +113,9 @@ impl From<RestartError> for Halt {
             RestartError::BadStore { file, at } => Halt::BadStore { file, at },
             RestartError::Unformatted => Halt::Unformatted,
             RestartError::Formatted => Halt::Formatted,
-            RestartError::TooLong | RestartError::Unsteady | RestartError::OutOfMemory =>
-                Halt::OutOfMemory,
+            RestartError::TooLong => Halt::RecordTooLong,
+            RestartError::Unsteady => Halt::StoreUnsteady,
+            RestartError::OutOfMemory => Halt::OutOfMemory,
         }
     }
 }
@@ -124,7 +130,8 @@ impl From<InspectError> for Halt {
             InspectError::StoreFault => Halt::StoreFault,
             InspectError::BadStore { file, at } => Halt::BadStore { file, at },
             InspectError::Unformatted => Halt::Unformatted,
-            InspectError::TooLong | InspectError::OutOfMemory => Halt::OutOfMemory,
+            InspectError::TooLong => Halt::RecordTooLong,
+            InspectError::OutOfMemory => Halt::OutOfMemory,
         }
     }
 }
@@ -173,6 +180,8 @@ impl Halt {
             Halt::BadStore { file, at } => Status::BadStore { file, at },
             Halt::Unformatted => Status::Unformatted,
             Halt::Formatted => Status::Formatted,
+            Halt::StoreUnsteady => Status::StoreUnsteady,
+            Halt::RecordTooLong => Status::RecordTooLong,
             Halt::LogFull { end, limit } => Status::LogFull { end, limit },
             Halt::OutOfMemory => Status::OutOfMemory,
             Halt::TooSmall => Status::TooSmall,

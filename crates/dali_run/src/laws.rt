@@ -97,7 +97,7 @@ pub fn store_faults_rise<V: Store>()
 /// 1,048,576 at most. The first command is to find what it asks for: `size` a store without a database, `open` one of whose log
 /// every crash leaves a record. A crash may leave of the store only files of this program, and no damage escapes. No count of
 /// faults rises: the source's and the sink's in the run, the store's in the command that ended it. Then the status is `Done`,
-/// or memory was refused.
+/// or memory was refused, or the record of a restart would be too long.
 pub fn runs_complete<V: Store>()
     ensures { (limit : ℕ) (precheck : Bool) → RunsComplete V.Store limit precheck }
 {}

@@ -25,6 +25,10 @@ pub enum Status {
     Unformatted,
     /// The store holds one already.
     Formatted,
+    /// The store gave other bytes when it was read again.
+    StoreUnsteady,
+    /// The record of a restart would have more bytes than a batch.
+    RecordTooLong,
     /// Memory was wanted and refused.
     OutOfMemory,
     /// The log has no room for a command: `end` is where it ends with the records that wait, `limit` how far it may go.

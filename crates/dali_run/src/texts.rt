@@ -239,6 +239,8 @@ pub fn write_last_line<K: Sink>(sink: &mut K, halt: Halt) -> Result<(), Failed>
         Halt::BadStore { file, at } => write_bad_store(sink, file, at),
         Halt::Unformatted => write_all(sink, b"unformatted\n"),
         Halt::Formatted => write_all(sink, b"formatted\n"),
+        Halt::StoreUnsteady => write_all(sink, b"store unsteady\n"),
+        Halt::RecordTooLong => write_all(sink, b"record too long\n"),
         Halt::LogFull { end, limit } => write_log_full(sink, end, limit),
         Halt::OutOfMemory => write_all(sink, b"out of memory\n"),
         Halt::TooSmall => write_all(sink, b"too small\n"),

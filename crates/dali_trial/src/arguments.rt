@@ -5,6 +5,15 @@ use anyhow::Result;
 use clap::{Arg, ArgAction, ArgMatches, Command, value_parser};
 use std::alloc::{AllocError, Global};
 
+/// A byte of the log that reads as one more than it is.
+#[derive(Clone, Copy)]
+pub struct Change {
+    /// The number of the first read of the log that gives it so, from 0.
+    pub from: u64,
+    /// Its place.
+    pub place: u64,
+}
+
 /// Which calls of the streams and the store fail, and what a crash leaves at the end.
 #[derive(Drop)]
 pub struct Faults {
@@ -22,6 +31,8 @@ pub struct Faults {
     pub passes: Option<u64>,
     /// The choice of the crash at the end; None: there is none.
     pub crash: Option<u32>,
+    /// What the log reads otherwise; None: it reads as it is.
+    pub change: Option<Change>,
 }
 
 fn number<'a>(alloc: Global, name: &'a str, help: &'a str) -> Arg<'a> {
@@ -57,6 +68,16 @@ pub fn command<'a>(alloc: Global) -> Result<Command<'a>, AllocError> {
         .arg(numbers(alloc, "fail-call", "Fails the store's call so"))?
         .arg(number(alloc, "passes", "Fails all its calls behind so many"))?
         .arg(crash)?
+        .arg(number(
+            alloc,
+            "unsteady",
+            "Reads of the log with this number and later ones are changed",
+        ))?
+        .arg(number(
+            alloc,
+            "unsteady-at",
+            "The place of the byte that they change",
+        ))?
         .arg(words)
 }
 
@@ -76,6 +97,13 @@ fn numbers_of(alloc: Global, matches: &ArgMatches, name: &str) -> Result<Vec<u64
     Ok(numbers)
 }
 
+// What the log reads otherwise.
+fn change_of(matches: &ArgMatches) -> Option<Change> {
+    let from = matches.get_one::<u64>("unsteady")?;
+    let place = matches.get_one::<u64>("unsteady-at").unwrap_or(0);
+    Some(Change { from, place })
+}
+
 /// The faults that the matches ask for.
 pub fn faults_of(alloc: Global, matches: &ArgMatches) -> Result<Faults>
     ensures reads { IfOk result (λ faults. 1 ≤ faults.reads_of) }
@@ -89,6 +117,7 @@ pub fn faults_of(alloc: Global, matches: &ArgMatches) -> Result<Faults>
         calls: numbers_of(alloc, matches, "fail-call")?,
         passes: matches.get_one::<u64>("passes"),
         crash: matches.get_one::<u32>("crash"),
+        change: change_of(matches),
     })
 }
 

@@ -6,33 +6,58 @@ ghost use Rattle.std.specs.Prelude.{◌≤◌};
 mod arguments;
 mod counted;
 mod files;
+mod unsteady;
 
 use anyhow::Result;
-use arguments::{Faults, command, faults_of, words_of};
+use arguments::{Change, Faults, command, faults_of, words_of};
 use counted::Counted;
 use dali_fuse::Fuse;
 use dali_memstore::MemoryStore;
 use dali_program::run_with;
+use dali_store::Store;
 use dali_streams::{MemorySink, MemorySource};
 use std::alloc::Global;
 use std::env;
 use std::io::{self, Eprint, Input, Print, Read, Write};
-use std::marker::Sync;
+use std::marker::{Send, Sync};
 use std::process::ExitCode;
 use std::rt::Files;
 use std::sync::Wait;
 use std::thread::Threads;
+use unsteady::Unsteady;
 
 /// What a run left.
 #[derive(Drop)]
 struct Ran {
     number: u8,
     sink: Counted<MemorySink>,
-    store: Counted<Fuse<MemoryStore>>,
     reads: u64,
+    calls: u64,
 }
 
-// Runs the words.
+// Runs the words over any store, and hands it out again.
+fn run_with_store<R: Threads + Wait + Sync, V: Store + Send>(
+    rt: &R,
+    alloc: Global,
+    words: Vec<String>,
+    source: MemorySource,
+    sink: MemorySink,
+    store: V,
+) -> (Ran, V) {
+    let mut source = Counted::new(source);
+    let mut sink = Counted::new(sink);
+    let store = Counted::new(store);
+    let (number, store) = run_with(rt, alloc, Ok(words), &mut source, &mut sink, store);
+    let ran = Ran {
+        number,
+        sink,
+        reads: source.calls(),
+        calls: store.calls(),
+    };
+    (ran, store.into_inner())
+}
+
+// Runs the words over the store, or over one that reads otherwise from a call on.
 fn run_over<R: Threads + Wait + Sync>(
     rt: &R,
     alloc: Global,
@@ -40,16 +65,15 @@ fn run_over<R: Threads + Wait + Sync>(
     source: MemorySource,
     sink: MemorySink,
     store: Fuse<MemoryStore>,
-) -> Ran {
-    let mut source = Counted::new(source);
-    let mut sink = Counted::new(sink);
-    let store = Counted::new(store);
-    let (number, store) = run_with(rt, alloc, Ok(words), &mut source, &mut sink, store);
-    Ran {
-        number,
-        sink,
-        store,
-        reads: source.calls(),
+    change: Option<Change>,
+) -> (Ran, Fuse<MemoryStore>) {
+    match change {
+        None => run_with_store(rt, alloc, words, source, sink, store),
+        Some(Change { from, place }) => {
+            let store = Unsteady::new(store, from, place);
+            let (ran, store) = run_with_store(rt, alloc, words, source, sink, store);
+            (ran, store.into_inner())
+        }
     }
 }
 
@@ -96,10 +120,10 @@ fn run<R: AllocGlobal + Eprint + Files + Input + Print + Threads + Wait + Sync>(
     let sink = MemorySink::new(alloc, faults.writes_of, faults.writes);
     let store = MemoryStore::with(files::read_all(rt)?, faults.calls);
     let store = Fuse::new(store, faults.passes);
-    let ran = run_over(rt, alloc, words, source, sink, store);
-    let (writes, calls) = (ran.sink.calls(), ran.store.calls());
-    write_back(rt, ran.store.into_inner(), faults.crash)?;
-    tell(rt, ran.sink.inner().taken(), ran.reads, writes, calls)?;
+    let (ran, store) = run_over(rt, alloc, words, source, sink, store, faults.change);
+    write_back(rt, store, faults.crash)?;
+    let writes = ran.sink.calls();
+    tell(rt, ran.sink.inner().taken(), ran.reads, writes, ran.calls)?;
     Ok(ran.number)
 }
 

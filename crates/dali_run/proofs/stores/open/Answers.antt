@@ -59,6 +59,8 @@ returns-in-Err-clause-fails g c =
     (record {
       bad = r.bad;
       unformatted = r.unformatted;
+      long = r.long;
+      steady = r.steady;
       formatted = r.formatted;
       reads = r.reads;
       fault = r.fault;
