@@ -141,7 +141,6 @@ module _ {V : Type 0} (means : Ghosts V) where
         rests = rests clear;
         between = between;
       };
-      at_once = λ e. f.stood.tells.at_once (f.stood.precheck_is ∙ e);
     }
 
     lines_are : map lines_of ks ≡ map lines_in f.standings

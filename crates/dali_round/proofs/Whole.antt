@@ -94,7 +94,6 @@ module _ {V : Type 0} (means : Ghosts V) (precheck : Bool) where
           rests = b.between.rests;
           between = λ e. absurd (cc);
         };
-        at_once = now.tells.at_once;
       }
     where
       handed : (bs : List Told) → AreHanded false (receipts_of (world means precheck s B p gs y v b) bs) []

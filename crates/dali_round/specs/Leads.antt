@@ -2,7 +2,7 @@
 --     BeginsAt s B p gs y v    a run from the start s has come to the point p, where the core stands with its image files, and a round may begin
 --     RoundLeads ..            the run goes on from p, by just what the round's deeds tell, to a point where the core stands
 --     RoundGoes ..             so it does from each such point
-use Rattle.std.specs.Prelude.{◌≡◌, ℕ, Bool, true, false, List, Option, IfSome, map}
+use Rattle.std.specs.Prelude.{ℕ, Bool, true, false, List, Option, IfSome, map}
 use Rattle.dali_record.specs.declared.records.Record.{Record}
 use Rattle.dali_region.specs.State.{RegionState}
 use Rattle.dali_store.specs.Store.{Files as Disk}
@@ -16,7 +16,7 @@ use Rattle.dali_core.specs.Cores.{HoldsPlaces}
 use Rattle.dali_transactions.specs.Stands.{StandsAt}
 use Rattle.dali_transcripts.specs.Words.{Said}
 use Rattle.dali_transcripts.specs.Transcripts.{Told}
-use Rattle.dali_transcripts.specs.Rounds.{AreAtOnce, IsBetween, IsRound}
+use Rattle.dali_transcripts.specs.Rounds.{IsBetween, IsRound}
 use Rattle.dali_transcripts.specs.declared.clients.command.Block.{Block}
 use Rattle.dali_transcripts.specs.Clients.Said.{Transcribed}
 use Rattle.dali_transcripts.specs.Clients.Told.{said_of, told_of}
@@ -47,8 +47,6 @@ module _ {V : Type 0} (means : Ghosts V) where
     pub files : IfSome (means.told u.store) (HoldsPlaces hs)
     pub keeps : FlagTells to
     pub round : IsRound precheck whole s.log p.core to.core blocks lines receipts
-    -- one thread makes all steps: nothing comes between a look and its operation
-    pub at_once : precheck ≡ true → AreAtOnce round.world
 
   abbrev pub RoundGoes : Bool → List Block → List RegionState → SystemState → Vaulted V → RoundEnd → List Transcribed → List RegionState → SystemState → Vaulted V → Type 0
   RoundGoes precheck blocks gs y v end transcripts hs z u =

@@ -49,7 +49,7 @@ use Rattle.dali_calls.proofs.Others.{promises_further}
 use Rattle.dali_calls.specs.declared.single.error.StepError.{StepError}
 use Rattle.dali_calls.specs.declared.single.error.StepError.TheVariants.{Latch as LatchRefused, System as SystemRefused}
 use Rattle.dali_calls.specs.Single.Refusals.{IsAnswerTo, IsUnfreed, IsStuck, IsLatched}
-use Rattle.dali_calls.specs.Single.Single.{is_end, IsOwnStep, Leads, OthersStay as RowsStay, AreCovered}
+use Rattle.dali_calls.specs.Single.Single.{is_end, IsOwnStep, Look, look_behind, LeadsFrom, Leads, OthersStay as RowsStay, AreCovered}
 use Rattle.dali_calls.specs.Single.Ending.{IsBackOf, IsAtWork, HasEnded, IsEnded, IsStillAtWork}
 use Rattle.dali_calls.specs.Single.Settling.{MayFree, IsPromised, IsSoloOf, IsCommitted, IsSettled}
 use Rattle.dali_calls.proofs.SingleLemmas.Standing.{own_steps_stand}
@@ -75,8 +75,8 @@ change_own t (Update word value) (Some g) own = refl
 change_own t TakeBack (Some g) own = refl
 change_own t x (Some g) own = absurd own
 
-own_front : (t : ℕ) (c : CoreState) (x : Step) (xs : List Step) → IsOwnStep false t c x → is_end x ≡ false → AreOfEnd t xs → AreOfEnd t (x ∷ xs)
-own_front t c (Operates u b) xs own e rest = (own.0, rest)
+own_front : (t : ℕ) (c : CoreState) (x : Step) (xs : List Step) → IsOwnStep t c x → is_end x ≡ false → AreOfEnd t xs → AreOfEnd t (x ∷ xs)
+own_front t c (Operates u b) xs own e rest = (own, rest)
 own_front t c (TakesBack u b) xs own e rest = (own, rest)
 own_front t c (Frees p b) xs own e rest = (own, rest)
 own_front t c (Locks u k m) xs own e rest = (own, rest)
@@ -86,9 +86,12 @@ own_front t c (Answers u k a) xs own e rest = absurd cc
 own_front t c (Commits u) xs own e rest = absurd cc
 own_front t c x xs own e rest = absurd own
 
+front_from : (t : ℕ) (o : Look) (L M : List Record) (c d : CoreState) (xs : List Step) → LeadsFrom false t o L c xs M d → AreOfEnd t xs
+front_from t o L M c d [] leads = tt
+front_from t o L M c d (x ∷ xs) leads = own_front t c x xs leads.2.1 leads.2.2 (front_from t (look_behind c x o) leads.0 M leads.1 d xs leads.3)
+
 pub leads_front : (t : ℕ) (L M : List Record) (c d : CoreState) (xs : List Step) → Leads false t L c xs M d → AreOfEnd t xs
-leads_front t L M c d [] leads = tt
-leads_front t L M c d (x ∷ xs) leads = own_front t c x xs leads.2.1 leads.2.2 (leads_front t leads.0 M leads.1 d xs leads.3)
+leads_front t L M c d xs leads = front_from t None L M c d xs leads
 
 -- ---- what a run says of a transaction without a dead hold
 module _ (bases : Bases) (before L : List Record) (gs : List RegionState) (y : SystemState) (v : VaultState) (a : Audits) (run : InRun bases before (moment gs y L v a)) (dead : AreDead gs) (t : ℕ) where

@@ -22,6 +22,7 @@ pub mod Faults
 pub mod Tries
 pub mod Together
 pub mod Looks
+pub mod Touches
 pub mod LooksRight
 pub mod Left
 pub mod Wrong

@@ -5,3 +5,5 @@ pub mod Told
 pub mod Core
 pub mod Steps
 pub mod Courses
+pub mod Effects
+pub mod Failing

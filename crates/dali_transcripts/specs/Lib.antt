@@ -15,5 +15,6 @@ pub mod Tries
 pub mod Together
 pub mod Left
 pub mod Looks
+pub mod Touches
 pub mod Clients
 pub mod Telling

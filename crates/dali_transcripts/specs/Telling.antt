@@ -1,3 +1,4 @@
 pub mod Deeds
 pub mod Tells
+pub mod Effects
 pub mod Laws

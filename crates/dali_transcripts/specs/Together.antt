@@ -2,7 +2,7 @@
 --     Owes v w c x             what the deed x of c owes, which leads from the world v to the world w
 --     RightNow v x             the look of the deed x, if it needs one, is at its own place, behind the world v
 --     HasKept v w              what a core owes that goes on without a deed
---     AtOnceAtFirst, AtOnceByDeed, AtOnceByNone, AtOnceTells     where each look is at its own place, there is a look for each operation
+--     AtOnceTells              where a look is at its own place, its client has looked; where each one is, there is a look for each operation
 --     TogetherAtFirst, TogetherByDeed, TogetherByNone      it holds where a round begins, and then goes on to hold
 use Rattle.std.specs.Prelude.{◌≡◌, ◌≢◌, ◌↔◌, ℕ, ◌+◌, ◌<◌, ◌≤◌, true, false, List, [], ◌∷◌, ◌++◌, Option, Some, None, Contains, length, slice_get, sum_by, take}
 use Rattle.dali_record.specs.declared.records.Record.TheVariants.{Forward}
@@ -82,15 +82,6 @@ abbrev pub TogetherAtFirst : Type 0
 TogetherAtFirst = (w : World) → w.happened ≡ [] → w.core ≡ w.old → HoldsTogether w
 
 -- ---- looks that are made at once
-abbrev pub AtOnceAtFirst : Type 0
-AtOnceAtFirst = (w : World) → w.happened ≡ [] → AreAtOnce w
-
-abbrev pub AtOnceByDeed : Type 0
-AtOnceByDeed = (v w : World) (c : ℕ) (x : Deed) → (g : Grows v w) → g.more ≡ (x, c) ∷ [] → AreAtOnce v → RightNow v x → AreAtOnce w
-
-abbrev pub AtOnceByNone : Type 0
-AtOnceByNone = (v w : World) → (g : Grows v w) → g.more ≡ [] → AreAtOnce v → AreAtOnce w
-
 pub record AtOnceTells : Type 0 where
   pub all : (w : World) → AreAtOnce w → PrecheckTells w
   pub one : (v : World) (c : ℕ) (x : Deed) → RightNow v x → RightBy v c x

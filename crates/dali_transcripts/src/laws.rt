@@ -3,7 +3,8 @@
 ghost use Rattle.dali_transcripts.specs.Laws.{OneMoreDeed, OneMoreStep, DeedIsDone, DeedsAreDone, GrowsOn, OwnGoesOn, OthersGoOn, RightGoesOn, EachIsOwned, OwnedByOne, OwnAscend, WorldGoesOn, LinesTell, LinesAreRecords, CutLinesAreRecords, DeedsAreTold, OperationsAreTold, AnchorsRise, OkIsFlushed, GoneIsSilent, NothingAfterDied, NothingAfterStop, TriesAreFew, TextAscends};
 ghost use Rattle.dali_transcripts.specs.Grown.{StepsGrow, CoursesGrow};
 ghost use Rattle.dali_transcripts.specs.Rounds.{RoundGoesOn, RoundIsDone, RoundIsCut};
-ghost use Rattle.dali_transcripts.specs.Together.{TogetherAtFirst, TogetherByDeed, TogetherByNone, AtOnceAtFirst, AtOnceByDeed, AtOnceByNone, AtOnceTells};
+ghost use Rattle.dali_transcripts.specs.Together.{TogetherAtFirst, TogetherByDeed, TogetherByNone, AtOnceTells};
+ghost use Rattle.dali_transcripts.specs.Touches.{HoldersTouch, OthersAreLeft};
 ghost use Rattle.dali_transcripts.specs.Looks.{LooksStayRight};
 ghost use Rattle.dali_transcripts.specs.Left.{LeftHaveDied};
 ghost use Rattle.dali_transcripts.specs.Worked.{AreMade, Conflict, ConflictRuns};
@@ -202,13 +203,19 @@ pub fn all_holds_without_a_deed()
     ensures { TogetherByNone }
 {}
 
-/// Where one thread makes all steps, a look with precheck is at the place of its operation: so it is at first and behind each deed,
-/// and there is a look for each operation.
-pub fn looks_are_at_once()
-    ensures first { AtOnceAtFirst }
-    ensures deed { AtOnceByDeed }
-    ensures none { AtOnceByNone }
-    ensures tells { AtOnceTells }
+/// Where a region is right at the place of an operation itself, as where one thread makes all steps of it, its client has looked.
+pub fn looks_at_once_are_looks()
+    ensures { AtOnceTells }
+{}
+
+/// What the holder of a region does on it is made on the region and on the system.
+pub fn holders_touch_the_system()
+    ensures { HoldersTouch }
+{}
+
+/// What is told of a region, of the system or of the vault changes by the deeds alone that are made on it.
+pub fn deeds_leave_the_rest()
+    ensures { OthersAreLeft }
 {}
 
 /// A look that was right stays so where another client then writes astray and begins an audit.

@@ -1,13 +1,12 @@
 -- A client dies in an operation of its call.
-use Rattle.std.proofs.Common.{◌≡◌, ℕ, ◌+◌, ◌-◌, Bool, true, false, not, List, [], ◌∷◌, ◌++◌, length, map, Option, Some, None, IfSome, is_some, if◌then◌else◌, refl, ap, sym, subst, ◌∙◌, ◌⊎◌, inr, arith}
-use Rattle.std.specs.Prelude.{◌==◌, ◌&&◌, slice_get, slice_set}
+use Rattle.std.proofs.Common.{◌≡◌, ℕ, ◌+◌, ◌-◌, Bool, true, false, not, List, [], ◌∷◌, ◌++◌, length, map, Option, Some, None, is_some, if◌then◌else◌, refl, ap, sym, subst, ◌∙◌, ◌⊎◌, inr, arith}
+use Rattle.std.specs.Prelude.{◌==◌, ◌&&◌, slice_get}
 use Rattle.std.specs.List.{list_all}
-use Rattle.std.specs.Option.{option_map_or}
-use Rattle.std.proofs.lemmas.List.{append-nil, append_assoc, map-append, append_cancel_left}
+use Rattle.std.proofs.lemmas.List.{append-nil, append_assoc, map-append, append_cancel_left, take_all}
 use Rattle.std.proofs.lemmas.Bool.{and_parts, ne_eqb}
 use Rattle.dali_runs.proofs.CountsLemmas.Lists.{same_number, some_same}
 use Rattle.dali_record.specs.declared.records.Record.{Record}
-use Rattle.dali_region.specs.State.{RegionState, dead}
+use Rattle.dali_region.specs.State.{RegionState}
 use Rattle.dali_att.specs.declared.state.State.{State as RowState}
 use Rattle.dali_att.specs.declared.state.State.TheVariants.{Live, Dead}
 use Rattle.dali_att.specs.Table.{with_state}
@@ -24,9 +23,7 @@ use Rattle.dali_crash.specs.Traces.{Start, bases_of}
 use Rattle.dali_core.specs.Vault.Vaulted.{Vaulted}
 use Rattle.dali_calls.specs.Plans.{Planned, is_back, IsWhole}
 use Rattle.dali_calls.specs.Single.Stands.{core}
-use Rattle.dali_calls.proofs.SingleLemmas.Lists.{get_set}
 use Rattle.dali_calls.specs.Stepwise.Stepwise.{IsDeath, DiesIn as DiesNow}
-use Rattle.dali_calls.proofs.StepwiseLemmas.Opening.{kept_by}
 use Rattle.dali_core.proofs.StepsLemmas.Courses.{came_same, vault_same}
 use Rattle.dali_core.proofs.StepsLemmas.Steps.{quiet_goes}
 use Rattle.dali_core.specs.Cores.{IsCoreAt}
@@ -34,13 +31,15 @@ use Rattle.dali_checkpoint.proofs.Calls.{course_join}
 use Rattle.dali_transactions.specs.Beside.Went.{Went as RoundsWent}
 use Rattle.dali_transactions.proofs.BesideLemmas.Calls.{die_goes}
 use Rattle.dali_transcripts.specs.Words.{Calls}
-use Rattle.dali_transcripts.specs.World.{Deed, Logs, DiesOn, World, log_of, log_at, is_claimed_in}
+use Rattle.dali_transcripts.specs.World.{Deed, Logs, DiesOn, World, log_of, log_at, is_claimed_in, stray_after}
 use Rattle.dali_transcripts.specs.Moves.{Within as IsWithin, at, Move, Dies, operations, left}
 use Rattle.dali_transcripts.specs.Causes.{GoesOn as MayGoOn, HasCause}
-use Rattle.dali_transcripts.specs.Rounds.{Standing}
+use Rattle.dali_transcripts.specs.Rounds.{by, Standing}
+use Rattle.dali_transcripts.proofs.Looks.{at_once_tells}
 use Rattle.dali_transcripts.proofs.Growing.{works}
 use Rattle.dali_transcripts.specs.Telling.Tells.{after}
 use Rattle.dali_transcripts.specs.Telling.Laws.{AreOfCourse}
+use Rattle.dali_transcripts.proofs.TellingLemmas.Courses.{after_after}
 use Rattle.dali_transcripts.proofs.TellingLemmas.States.{new_state}
 use Rattle.dali_transcripts.specs.Clients.Said.{said as with_lines}
 use Rattle.dali_transcripts.specs.Clients.Told.{act_of, said_of}
@@ -63,13 +62,23 @@ use Rattle.dali_turns.proofs.Allowed.{words_are, may_go_on}
 use Rattle.dali_transactions.specs.Beside.Went.{is_open}
 
 -- ---- steps that log nothing, and then a death
-dies_behind : (t r c : ℕ) (w : World) (p mid q : Point) (xs : List StoreStep) (ds : List Deed) → AreOfCourse w c p xs mid ds → IsPointStep mid (Does (DiesStep t (Some r))) q → (w.precheck ≡ true → IfSome (slice_get mid.core.regions r) (λ (g : RegionState). g.stray ≡ 0))
+dies_behind : (t r c : ℕ) (w : World) (p mid q : Point) (xs : List StoreStep) (ds : List Deed) → AreOfCourse w c p xs mid ds → IsPointStep mid (Does (DiesStep t (Some r))) q
+    → (w.precheck ≡ true → (g0 : RegionState) → slice_get w.old.regions r ≡ Some g0 → stray_after r g0.stray (w.happened ++ by c ds) ≡ 0)
     → AreOfCourse w c p (xs ++ Does (DiesStep t (Some r)) ∷ []) q (ds ++ DiesOn t r ∷ [])
 dies_behind t r c w p mid q [] ds (same, none) step right =
     subst (λ es. AreOfCourse w c p (Does (DiesStep t (Some r)) ∷ []) q (es ++ DiesOn t r ∷ [])) (sym none)
-    (q, DiesOn t r ∷ [], [], subst (λ (z : Point). IsPointStep z (Does (DiesStep t (Some r))) q) (sym same) step, (refl, λ on. subst (λ (z : Point). IfSome (slice_get z.core.regions r) (λ (g : RegionState). g.stray ≡ 0)) (sym same) (right on)), (tt, tt), (refl, refl), refl)
-dies_behind t r c w p mid q (x ∷ xs) ds (next, own, more, one, are, due, rest, whole) step right =
-    (next, own, more ++ DiesOn t r ∷ [], one, are, due, dies_behind t r c (after w c own next.core) next mid q xs more rest step right, ap (λ es. es ++ DiesOn t r ∷ []) whole ∙ append_assoc own more (DiesOn t r ∷ []))
+    (q, DiesOn t r ∷ [], [], subst (λ (z : Point). IsPointStep z (Does (DiesStep t (Some r))) q) (sym same) step, (refl, λ on. at_once_tells.one w c (DiesOn t r) (λ g0 was. ap (stray_after r g0.stray) (take_all (length w.happened) w.happened (omega arith) ∙ (sym (append-nil w.happened) ∙ ap (λ es. w.happened ++ by c es) (sym none))) ∙ right on g0 was)), (tt, tt), (refl, refl), refl)
+dies_behind t r c w p mid q (x ∷ xs) ds (next, own, more, one, are, due, rest, whole) step right = (
+  next,
+  own,
+  more ++ DiesOn t r ∷ [],
+  one,
+  are,
+  due,
+  dies_behind t r c (after w c own next.core) next mid q xs more rest step
+      (λ on g0 was. ap (stray_after r g0.stray) (ap (λ (v : World). v.happened) (after_after w c own more next.core mid.core) ∙ ap (λ es. w.happened ++ by c es) (sym whole)) ∙ right on g0 was),
+  ap (λ es. es ++ DiesOn t r ∷ []) whole ∙ append_assoc own more (DiesOn t r ∷ []),
+)
 
 all_then : {X : Type 0} (f : X → Bool) (xs : List X) (x : X) → list_all f xs ≡ true → f x ≡ true → list_all f (xs ++ x ∷ []) ≡ true
 all_then f [] x h e = ap (λ b. b && true) e
@@ -120,19 +129,11 @@ module _ {V : Type 0} (means : Ghosts V)
   taken : z.taken ≡ now.mid.system.taken
   taken = ap (λ (c : CoreState). c.system.taken) now.dies.1.1
 
-  -- the words of the region are right there, where they were compared
-  right : w.precheck ≡ true → IfSome (slice_get mid.core.regions r) (λ (g : RegionState). g.stray ≡ 0)
-  right on = subst (λ (c : CoreState). IfSome (slice_get c.regions r) (λ (g : RegionState). g.stray ≡ 0)) (sym walked.core_there) (by_region (slice_get now.mid.regions r) refl)
-    where
-      by_region : (o : Option RegionState) → slice_get now.mid.regions r ≡ o → IfSome (slice_get now.mid.regions r) (λ (g : RegionState). g.stray ≡ 0)
-      by_region None e = subst (λ (o : Option RegionState). IfSome o (λ (g : RegionState). g.stray ≡ 0)) (sym e) tt
-      by_region (Some m) e =
-          let is_set : hs ≡ slice_set now.mid.regions r (dead m) = ap (λ (c : CoreState). c.regions) now.dies.1.1 ∙ ap (λ (o : Option RegionState). option_map_or (λ (g : RegionState). slice_set now.mid.regions r (dead g)) o now.mid.regions) e in
-          let mine : slice_get hs r ≡ Some (dead m) = ap (λ l. slice_get l r) is_set ∙ get_set now.mid.regions r m (dead m) e in
-          let there : slice_get hs r ≡ Some (dead death.opened) = ap (λ l. slice_get l r) death.regions ∙ get_set gs r death.region (dead death.opened) death.at in
-          let same : dead m ≡ dead death.opened = some_same (sym mine ∙ there) in
-          subst (λ (o : Option RegionState). IfSome o (λ (g : RegionState). g.stray ≡ 0)) (sym e)
-          (ap (λ (g : RegionState). g.stray) same ∙ (ap (λ (g : RegionState). g.stray) (kept_by plan.txn death.region death.opened death.is.steps death.is.goes) ∙ death.is.checked way (sym stood.precheck_is ∙ on)))
+  -- its client has looked: the region was right where it was latched, and no deed came since
+  right : w.precheck ≡ true → (g0 : RegionState) → slice_get w.old.regions r ≡ Some g0 → stray_after r g0.stray (w.happened ++ []) ≡ 0
+  right on g0 was =
+      let here : slice_get w.core.regions r ≡ Some death.region = ap (λ (c : CoreState). slice_get c.regions r) stood.tells.core ∙ (ap (λ rs. slice_get rs r) stood.stands.at.regions ∙ death.at) in
+      ap (stray_after r g0.stray) (append-nil w.happened) ∙ (sym (stood.tells.together.pokes r g0 death.region was here).0 ∙ death.is.checked way (sym stood.precheck_is ∙ on))
 
   at_behind : IsCoreAt means s B q hs z v
   at_behind = record {

@@ -136,7 +136,7 @@ at_new L rs y v t call may = record {
 
 asked : (precheck : Bool) (L M : List Record) (c : CoreState) (d e : CoreState) (t k : ℕ) (m : Mode) (xs : List Step) → IsSome (row_of c.system t) → IsAnswer c.system.locks t k m Granted
     → d ≡ with_system c (granted c.system t k m) → Leads precheck t L d xs M e → Leads precheck t L c (AsksLock t k m ∷ xs) M e
-asked precheck L M c d e t k m xs row free is rest = (L, d, ((row, free, (refl, is)), refl, refl), rest)
+asked precheck L M c d e t k m xs row free is rest = (L, d, ((row, free, (refl, is)), refl, refl, tt), rest)
 
 -- ---- it is answered
 answers : (L : List Record) (c : CoreState) (p : Planned) (a : Answer) → state_of c.system p.txn ≡ Some Live → AtPlan L c p → IsWhole p → p.geometry ≡ c.system.sizes → want_of p ≡ AnswerIsNext

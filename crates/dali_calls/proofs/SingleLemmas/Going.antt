@@ -1,5 +1,5 @@
 -- A plan goes on by one operation.
-use Rattle.std.proofs.Common.{inl, inr, ◌≡◌, ℕ, ◌-◌, Bool, true, false, List, [], ◌∷◌, ◌++◌, Option, Some, None, IsSome, IfSome, refl, sym, ap, subst, ◌∙◌, append_assoc, length, slice_get, slice_set, option_map}
+use Rattle.std.proofs.Common.{inl, inr, ◌≡◌, ℕ, Bool, true, false, List, [], ◌∷◌, ◌++◌, Option, Some, None, IsSome, refl, sym, ap, subst, ◌∙◌, append_assoc, length, slice_get, slice_set, option_map}
 use Rattle.std.proofs.lemmas.List.{append-nil, set-set}
 use Rattle.std.specs.Prelude.{◌==◌}
 use Rattle.std.specs.FinMap.{get}
@@ -33,13 +33,13 @@ use Rattle.dali_calls.specs.Operating.{Goes}
 use Rattle.dali_calls.proofs.Wholes.{back_next}
 use Rattle.dali_calls.proofs.Following.{onward_follows, back_follows, drop_append}
 use Rattle.dali_calls.proofs.Stepping.{onward_is_step, back_is_step}
-use Rattle.dali_calls.proofs.Operating.{steps_on}
+use Rattle.dali_calls.proofs.Operating.{steps_on, held_open}
 use Rattle.dali_calls.proofs.Rows.{row_here, row_apart, undos_in}
 use Rattle.dali_calls.specs.Single.Stands.{core, IsAtRest, AtPlan}
 use Rattle.dali_calls.specs.Single.Operated.{Operated, IsLeftOf}
-use Rattle.dali_calls.specs.Single.Single.{is_end, IsOwnStep, Leads}
+use Rattle.dali_calls.specs.Single.Single.{is_end, IsOwnStep, Look, IsRightOn, LooksRight, Leads}
 use Rattle.dali_calls.specs.Single.Advanced.{Led, Advanced}
-use Rattle.dali_calls.proofs.SingleLemmas.Leading.{leads_on, one_step, leads_there, stays_free}
+use Rattle.dali_calls.proofs.SingleLemmas.Leading.{leads_on, one_step, leads_looked, leads_there, stays_free, free_unheld}
 
 -- ---- the row of the transaction
 -- a change that leaves the state, and whose undos are those of g
@@ -97,23 +97,20 @@ ready_now : (c : CoreState) (p : Planned) (b : Block) (opened : RegionState) →
 ready_now c p b opened sizes w of lives holds at is = record { sizes = sizes; whole = whole_now p b w of; lives = lives; holds = holds; is_open = refl; at = at; written = is }
 
 -- the steps on the region, and the step that logs
-pub both_steps : (precheck : Bool) (L M : List Record) (rs : List RegionState) (y z : SystemState) (v : VaultState) (t r : ℕ) (g opened : RegionState) (xs : List RegionStep) (x : Step)
-    → state_of y t ≡ Some Live → slice_get rs r ≡ Some g → Goes t g xs opened
-    → IsOwnStep precheck t (with_region (core rs y v) r opened) x → is_end x ≡ false → IsStep L (with_region (core rs y v) r opened) x M (with_touched (with_region (core rs y v) r opened) z r opened)
+pub both_steps : (precheck asks : Bool) (L M : List Record) (rs : List RegionState) (y z : SystemState) (v : VaultState) (t r : ℕ) (g opened : RegionState) (xs : List RegionStep) (x : Step) (b : Block)
+    → state_of y t ≡ Some Live → IsFree (core rs y v) t → slice_get rs r ≡ Some g → Goes t g xs opened → IsOpen opened t b → (asks ≡ true → g.stray ≡ 0)
+    → IsOwnStep t (with_region (core rs y v) r opened) x → is_end x ≡ false → ((o : Look) → (asks ≡ true → IsRightOn r o) → LooksRight precheck o x)
+    → IsStep L (with_region (core rs y v) r opened) x M (with_touched (with_region (core rs y v) r opened) z r opened)
     → Leads precheck t L (core rs y v) (steps_on r xs ++ x ∷ []) M (core (slice_set rs r (touched opened)) z v)
-both_steps precheck L M rs y z v t r g opened xs x lives at goes own quiet step =
-    leads_on precheck t L L M (core rs y v) (with_region (core rs y v) r opened) (core (slice_set rs r (touched opened)) z v) (steps_on r xs) (x ∷ [])
-    (leads_there precheck L (core rs y v) t r g opened xs (alive (state_of y t) lives) at goes)
-    (one_step precheck t L M (with_region (core rs y v) r opened) (core (slice_set rs r (touched opened)) z v) x
-    (subst (λ (gs : List RegionState). IsStep L (with_region (core rs y v) r opened) x M (core gs z v)) (set-set rs r opened (touched opened)) step) own quiet)
-
-clean_there : (o : Option RegionState) (g : RegionState) → o ≡ Some g → g.stray ≡ 0 → IfSome o (λ g. g.stray ≡ 0)
-clean_there o g at clean = subst (λ (p : Option RegionState). IfSome p (λ g. g.stray ≡ 0)) (sym at) clean
+both_steps precheck asks L M rs y z v t r g opened xs x b lives free at goes is clean own quiet looks step =
+    leads_looked precheck asks L M (core rs y v) (core (slice_set rs r (touched opened)) z v) t r g opened xs x (alive (state_of y t) lives) at goes (free_unheld (core rs y v) t r g free at) (held_open opened t b is).0 clean
+    (λ o right. one_step precheck t o L M (with_region (core rs y v) r opened) (core (slice_set rs r (touched opened)) z v) x
+    (subst (λ (gs : List RegionState). IsStep L (with_region (core rs y v) r opened) x M (core gs z v)) (set-set rs r opened (touched opened)) step) own quiet (looks o right))
 
 onward_led : (precheck : Bool) (L : List Record) (rs : List RegionState) (y : SystemState) (v : VaultState) (p q : Planned) (b : Block) (g opened : RegionState) (xs : List RegionStep)
     → IsWhole p → p.geometry ≡ y.sizes → IsBlockOf (plan_next p) (call_key p.call) b → is_back p ≡ false
     → slice_get rs b.region ≡ Some g → Goes p.txn g xs opened → IsOpen opened p.txn b → HasRoom y (Forward p.txn b) → GoesOn p b q
-    → state_of y p.txn ≡ Some Live → (precheck ≡ true → opened.stray ≡ 0) → AtPlan L (core rs y v) p → Led precheck p.txn L (core rs y v) (core (slice_set rs b.region (touched opened)) (op_logged y p.txn b) v) q
+    → state_of y p.txn ≡ Some Live → (precheck ≡ true → g.stray ≡ 0) → AtPlan L (core rs y v) p → Led precheck p.txn L (core rs y v) (core (slice_set rs b.region (touched opened)) (op_logged y p.txn b) v) q
 onward_led precheck L rs y v p q b g opened xs w sizes of way at goes is room on lives checked plan =
     let c = with_region (core rs y v) b.region opened in
     let now = with_operation p (Some (open_now p b)) in
@@ -124,7 +121,7 @@ onward_led precheck L rs y v p q b g opened xs w sizes of way at goes is room on
     record {
       log = L ++ Forward p.txn b ∷ [];
       steps = steps_on b.region xs ++ Operates p.txn b ∷ [];
-      leads = both_steps precheck L (L ++ Forward p.txn b ∷ []) rs y (op_logged y p.txn b) v p.txn b.region g opened xs (Operates p.txn b) lives at goes (refl, λ e. clean_there (slice_get c.regions b.region) opened here (checked e)) refl step;
+      leads = both_steps precheck precheck L (L ++ Forward p.txn b ∷ []) rs y (op_logged y p.txn b) v p.txn b.region g opened xs (Operates p.txn b) b lives plan.free at goes is checked refl refl (λ o right. right) step;
       at = record {
         follows = onward_follows y.sizes L p q b sizes w plan.follows way of on;
         holds = subst (λ (z : Planned). HoldsCall (op_logged y p.txn b) z) (sym on.rest) plan.holds;
@@ -144,7 +141,7 @@ back_led precheck L rs y v p b g opened xs w sizes of way at goes is runs lives 
     record {
       log = L ++ Back p.txn b ∷ [];
       steps = steps_on b.region xs ++ TakesBack p.txn b ∷ [];
-      leads = both_steps precheck L (L ++ Back p.txn b ∷ []) rs y (back_logged y p.txn b) v p.txn b.region g opened xs (TakesBack p.txn b) lives at goes refl refl step;
+      leads = both_steps precheck false L (L ++ Back p.txn b ∷ []) rs y (back_logged y p.txn b) v p.txn b.region g opened xs (TakesBack p.txn b) b lives plan.free at goes is (λ e. absurd (cc)) refl refl (λ o right. tt) step;
       at = record {
         follows = back_follows y.sizes L p b sizes w plan.follows way of;
         holds = plan.holds;

@@ -136,9 +136,9 @@ freed_led L rs y v t u us b ws g opened xs fits may made_on spelled at goes is r
       steps = steps_on u.region xs ++ Frees t b ∷ [];
       leads = leads_on false t L L (L ++ Solo y.next t b ∷ []) (core rs y v) c new (steps_on u.region xs) (Frees t b ∷ [])
           (leads_there false L (core rs y v) t u.region g opened xs (committed_alive (state_of y t) state) at goes)
-          (one_step false t L (L ++ Solo y.next t b ∷ []) c new (Frees t b)
+          (one_step false t None L (L ++ Solo y.next t b ∷ []) c new (Frees t b)
           (subst (λ (gs : List RegionState). IsStep L c (Frees t b) (L ++ Solo y.next t b ∷ []) (core gs (solo_logged y t b) v)) (set-set rs u.region opened (touched opened))
-          (subst (λ (n : ℕ). IsStep L c (Frees t b) (L ++ Solo y.next t b ∷ []) (with_touched c (solo_logged y t b) n opened)) region step)) refl refl);
+          (subst (λ (n : ℕ). IsStep L c (Frees t b) (L ++ Solo y.next t b ∷ []) (with_touched c (solo_logged y t b) n opened)) region step)) refl refl tt);
       own = Solo y.next t b ∷ [];
       logged = refl;
       solos = (refl, tt);

@@ -25,7 +25,7 @@ use Rattle.dali_calls.specs.Operating.{IsOwn}
 use Rattle.dali_calls.proofs.Operating.{still_held}
 use Rattle.dali_calls.proofs.Rows.{row_apart}
 use Rattle.dali_calls.specs.Single.Stands.{core}
-use Rattle.dali_calls.specs.Single.Single.{IsOwnStep, Leads, HoldsStay, StandAside}
+use Rattle.dali_calls.specs.Single.Single.{IsOwnStep, Look, look_behind, LeadsFrom, HoldsStay, StandAside}
 use Rattle.dali_calls.specs.Single.Others.{OwnStepStandsAside, OwnStepsStandAside, CommittedWaits}
 use Rattle.dali_calls.proofs.SingleLemmas.Going.{kept_apart}
 use Rattle.dali_calls.proofs.SingleLemmas.Calling.{lock_apart}
@@ -156,12 +156,12 @@ by_region t r L c g (Clean side) at may own = absurd own
 own_here : (t : ℕ) (x : RegionStep) (o : Option RegionState) (g : RegionState) → o ≡ Some g → IsSomeAnd o (IsOwn t x) → IsOwn t x g
 own_here t x o g at own = let now : IsSomeAnd (Some g) (IsOwn t x) = subst (λ (p : Option RegionState). IsSomeAnd p (IsOwn t x)) at own in now
 
-own_aside : (precheck : Bool) (t : ℕ) (L M : List Record) (c d : CoreState) (x : Step) → IsStep L c x M d → IsOwnStep precheck t c x → StandAside t L c M d
-own_aside precheck t L M c d Begins s own = absurd own
-own_aside precheck t L M c d (Operates v b) s own = put_behind t L M c d (with_touched c (op_logged c.system v b) b.region s.0) (L ++ Forward v b ∷ []) s.3.0 s.3.1 (operated t v L c b s.0 own.0 s.2.at s.2.is_open)
-own_aside precheck t L M c d (TakesBack v b) s own = put_behind t L M c d (with_touched c (back_logged c.system v b) b.region s.0) (L ++ Back v b ∷ []) s.2.0 s.2.1 (went_back t v L c b s.0 own s.1.at s.1.is_open)
-own_aside precheck t L M c d (Frees v b) s own = put_behind t L M c d (with_touched c (solo_logged c.system v b) b.region s.0) (L ++ Solo c.system.next v b ∷ []) s.2.0 s.2.1 (freed t v L c b s.0 own s.1.at s.1.is_open)
-own_aside precheck t L M c d (Answers v call a) s own = put_behind t L M c d (with_system c (done_logged c.system v call a)) (L ++ Done v call a ∷ []) s.3.0 s.3.1 (record {
+own_aside : (t : ℕ) (L M : List Record) (c d : CoreState) (x : Step) → IsStep L c x M d → IsOwnStep t c x → StandAside t L c M d
+own_aside t L M c d Begins s own = absurd own
+own_aside t L M c d (Operates v b) s own = put_behind t L M c d (with_touched c (op_logged c.system v b) b.region s.0) (L ++ Forward v b ∷ []) s.3.0 s.3.1 (operated t v L c b s.0 own s.2.at s.2.is_open)
+own_aside t L M c d (TakesBack v b) s own = put_behind t L M c d (with_touched c (back_logged c.system v b) b.region s.0) (L ++ Back v b ∷ []) s.2.0 s.2.1 (went_back t v L c b s.0 own s.1.at s.1.is_open)
+own_aside t L M c d (Frees v b) s own = put_behind t L M c d (with_touched c (solo_logged c.system v b) b.region s.0) (L ++ Solo c.system.next v b ∷ []) s.2.0 s.2.1 (freed t v L c b s.0 own s.1.at s.1.is_open)
+own_aside t L M c d (Answers v call a) s own = put_behind t L M c d (with_system c (done_logged c.system v call a)) (L ++ Done v call a ∷ []) s.3.0 s.3.1 (record {
   sizes = refl;
   next = omega arith;
   system = λ u e. (refl, λ k. refl);
@@ -169,7 +169,7 @@ own_aside precheck t L M c d (Answers v call a) s own = put_behind t L M c d (wi
   rules = rules_with t L c (Done v call a) (λ u e less. apart_too t v u own e);
   later = later_with t L c c.system.next (Done v call a) (λ u e more. apart_too t v u own e);
 })
-own_aside precheck t L M c d (Commits v) s own = put_behind t L M c d (with_system c (commit_logged c.system v)) (L ++ Commit v ∷ []) s.2.0 s.2.1 (record {
+own_aside t L M c d (Commits v) s own = put_behind t L M c d (with_system c (commit_logged c.system v)) (L ++ Commit v ∷ []) s.2.0 s.2.1 (record {
   sizes = refl;
   next = omega arith;
   system = λ u e. commit_others c.system (commit_logged c.system v) v refl u (apart_too t v u own e);
@@ -177,7 +177,7 @@ own_aside precheck t L M c d (Commits v) s own = put_behind t L M c d (with_syst
   rules = rules_with t L c (Commit v) (λ u e less. apart_too t v u own e);
   later = later_with t L c c.system.next (Commit v) (λ u e more. apart_too t v u own e);
 })
-own_aside precheck t L M c d (Ends v) s own = put_behind t L M c d (with_system c (ended_logged c.system v)) (L ++ Ended v ∷ []) s.2.0 s.2.1 (record {
+own_aside t L M c d (Ends v) s own = put_behind t L M c d (with_system c (ended_logged c.system v)) (L ++ Ended v ∷ []) s.2.0 s.2.1 (record {
   sizes = refl;
   next = omega arith;
   system = λ u e. ended_others c.system (ended_logged c.system v) v refl u (apart_too t v u own e);
@@ -185,9 +185,9 @@ own_aside precheck t L M c d (Ends v) s own = put_behind t L M c d (with_system 
   rules = rules_with t L c (Ended v) (λ u e less. apart_too t v u own e);
   later = later_with t L c c.system.next (Ended v) (λ u e more. apart_too t v u own e);
 })
-own_aside precheck t L M c d AuditBegins s own = absurd own
-own_aside precheck t L M c d (AuditEnds b found) s own = absurd own
-own_aside precheck t L M c d (AsksLock v k m) s own = put_behind t L M c d (with_system c (granted c.system v k m)) L s.2.0 s.2.1 (record {
+own_aside t L M c d AuditBegins s own = absurd own
+own_aside t L M c d (AuditEnds b found) s own = absurd own
+own_aside t L M c d (AsksLock v k m) s own = put_behind t L M c d (with_system c (granted c.system v k m)) L s.2.0 s.2.1 (record {
   sizes = refl;
   next = omega arith;
   system = λ u e. (refl, λ j. lock_apart c.system.locks v u k j m (apart_too t v u own e));
@@ -195,12 +195,12 @@ own_aside precheck t L M c d (AsksLock v k m) s own = put_behind t L M c d (with
   rules = λ u e less. refl;
   later = λ u e more. refl;
 })
-own_aside precheck t L M c d (Refuses v k m h) s own = absurd own
-own_aside precheck t L M c d (OnRegion r x) s own = put_behind t L M c d (with_region c r (region_after x s.0)) L s.3.0 s.3.1 (by_region t r L c s.0 x s.1 s.2.0 (own_here t x (slice_get c.regions r) s.0 s.1 own))
-own_aside precheck t L M c d _ s own = absurd own
+own_aside t L M c d (Refuses v k m h) s own = absurd own
+own_aside t L M c d (OnRegion r x) s own = put_behind t L M c d (with_region c r (region_after x s.0)) L s.3.0 s.3.1 (by_region t r L c s.0 x s.1 s.2.0 (own_here t x (slice_get c.regions r) s.0 s.1 own))
+own_aside t L M c d _ s own = absurd own
 
 pub own_step_stands : OwnStepStandsAside
-own_step_stands precheck t L M c d x s own = own_aside precheck t L M c d x s own
+own_step_stands t L M c d x s own = own_aside t L M c d x s own
 
 -- ---- one behind another
 further : (t : ℕ) (L K M : List Record) (c m d : CoreState) → StandAside t L c K m → StandAside t K m M d → StandAside t L c M d
@@ -219,12 +219,12 @@ further t L K M c m d a b = record {
       subst (λ (s : Sizes). txn_state s u M ≡ txn_state s u K) a.sizes further ∙ a.later u e before;
 }
 
-all_aside : (precheck : Bool) (t : ℕ) (L M : List Record) (c d : CoreState) (xs : List Step) → Leads precheck t L c xs M d → StandAside t L c M d
-all_aside precheck t L M c d [] l = put_behind t L M c d c L (sym l.0) (sym l.1) (record { sizes = refl; next = omega arith; system = λ u e. (refl, λ k. refl); holds = λ u r h e own. (λ is. is, λ is. is); rules = λ u e less. refl; later = λ u e more. refl })
-all_aside precheck t L M c d (x ∷ xs) l = further t L l.0 M c l.1 d (own_aside precheck t L l.0 c l.1 x l.2.0 l.2.1) (all_aside precheck t l.0 M l.1 d xs l.3)
+all_aside : (precheck : Bool) (t : ℕ) (o : Look) (L M : List Record) (c d : CoreState) (xs : List Step) → LeadsFrom precheck t o L c xs M d → StandAside t L c M d
+all_aside precheck t o L M c d [] l = put_behind t L M c d c L (sym l.0) (sym l.1) (record { sizes = refl; next = omega arith; system = λ u e. (refl, λ k. refl); holds = λ u r h e own. (λ is. is, λ is. is); rules = λ u e less. refl; later = λ u e more. refl })
+all_aside precheck t o L M c d (x ∷ xs) l = further t L l.0 M c l.1 d (own_aside t L l.0 c l.1 x l.2.0 l.2.1) (all_aside precheck t (look_behind c x o) l.0 M l.1 d xs l.3)
 
 pub own_steps_stand : OwnStepsStandAside
-own_steps_stand precheck t L M c d xs l = all_aside precheck t L M c d xs l
+own_steps_stand precheck t L M c d xs l = all_aside precheck t None L M c d xs l
 
 -- ---- what is committed and waits
 -- a number that has a record is given

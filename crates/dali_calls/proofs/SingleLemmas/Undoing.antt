@@ -74,7 +74,7 @@ one_led L rs y v t u b g opened xs fits lives last may made runs at goes is work
       at = here;
       written = is;
     }) in
-    let there = both_steps false L (L ++ Back t b ∷ []) rs y (back_logged y t b) v t u.region g opened xs (TakesBack t b) lives at goes refl refl
+    let there = both_steps false false L (L ++ Back t b ∷ []) rs y (back_logged y t b) v t u.region g opened xs (TakesBack t b) b lives work.free at goes is (λ e. absurd (cc)) refl refl (λ o right. tt)
     (subst (λ (n : ℕ). IsStep L c (TakesBack t b) (L ++ Back t b ∷ []) (with_touched c (back_logged y t b) n opened)) same by.step) in
     let popped = changes_popped y.table t in
     record {

@@ -7,7 +7,7 @@ use Rattle.dali_region.specs.State.{RegionState, latched, with_reads, touched, t
 use Rattle.dali_runs.specs.State.{SystemState}
 use Rattle.dali_runs.specs.Steps.{op_logged, back_logged}
 use Rattle.dali_runs.specs.Keeps.{HasRoom}
-use Rattle.dali_runs.specs.Regions.{RegionStep, Latch, NoteReads, Update, TakeBack, Poke, Check, Die, Clean, IsOpen, region_after}
+use Rattle.dali_runs.specs.Regions.{RegionStep, TakeBack, IsOpen}
 use Rattle.dali_system.specs.declared.operation.Operation.{Operation}
 use Rattle.dali_region.specs.declared.Receipt.{Receipt}
 use Rattle.dali_region.specs.Answers.{latch_answer}
@@ -25,18 +25,6 @@ use Rattle.dali_record.specs.Spelling.{record_length}
 use Rattle.dali_calls.specs.declared.single.error.StepError.TheVariants.{System}
 use Rattle.dali_calls.specs.Single.Refusals.{IsAnswerTo, IsRefusedOn}
 use Rattle.dali_calls.specs.Single.Operated.{Operated, IsLeftOf}
-
--- an operation leaves what the codeword tells of stray writes
-stray_kept : (t : ℕ) (g h : RegionState) (xs : List RegionStep) → Goes t g xs h → h.stray ≡ g.stray
-stray_kept t g h [] go = ap (λ (k : RegionState). k.stray) (sym go)
-stray_kept t g h (Latch u ∷ xs) go = stray_kept t (region_after (Latch u) g) h xs go.2
-stray_kept t g h (NoteReads mask ∷ xs) go = stray_kept t (region_after (NoteReads mask) g) h xs go.2
-stray_kept t g h (Update word value ∷ xs) go = stray_kept t (region_after (Update word value) g) h xs go.2
-stray_kept t g h (TakeBack ∷ xs) go = stray_kept t (region_after TakeBack g) h xs go.2
-stray_kept t g h (Poke word mask ∷ xs) go = absurd go.1
-stray_kept t g h (Check ∷ xs) go = absurd go.1
-stray_kept t g h (Die ∷ xs) go = absurd go.1
-stray_kept t g h (Clean side ∷ xs) go = absurd go.1
 
 -- ---- what stands when the block is logged, or isn't
 -- the plan with its operation written, from its latch on
@@ -124,7 +112,7 @@ operated precheck p q r g h k y z w clean onward back is = record {
   goes = w.goes;
   is_open = subst (λ (t : ℕ). IsOpen h t w.operation.block) w.txn w.is_open;
   region = is;
-  checked = λ e f. stray_kept p.txn g h w.steps w.goes ∙ clean e f;
+  checked = clean;
   onward = λ e. went_on (subst (λ (x : Planned). is_back x ≡ false → IfSome x.operation (λ o. (z ≡ record y { state = op_logged y.state x.txn o.block }) × HasRoom y.state (Forward x.txn o.block) × GoesOn x o.block r)) w.is onward e);
   back = λ e. came_back (subst (λ (x : Planned). is_back x ≡ true → IfSome x.operation (λ o. (z ≡ record y { state = back_logged y.state x.txn o.block }) × (y.state.stop ≡ None) × (r ≡ went_back x))) w.is back e);
 }

@@ -37,7 +37,6 @@ use Rattle.dali_calls.proofs.SingleLemmas.Reaching.{wanted}
 use Rattle.dali_calls.specs.Stepwise.Opened.{IsOpened, IsLogged, IsMade, DiesOn, record_on}
 use Rattle.dali_calls.specs.Stepwise.Stepwise.{LeadsOnce, OneFurther, DiesIn, IsDeath}
 use Rattle.dali_calls.proofs.StepwiseLemmas.Growing.{led_grows}
-use Rattle.dali_calls.proofs.StepwiseLemmas.Opening.{kept_by}
 
 -- ---- an operation that is logged
 as_operated : (precheck : Bool) (p q : Planned) (g h : RegionState) (y z : SystemState) → IsMade precheck p g y q h z → Operated precheck p g y q h z
@@ -49,7 +48,7 @@ as_operated precheck p q g h y z m = record {
   goes = m.is.goes;
   is_open = m.is.is_open;
   region = m.region;
-  checked = λ e f. ap (λ (k : RegionState). k.stray) (kept_by p.txn g m.opened m.is.steps m.is.goes) ∙ m.is.checked e f;
+  checked = m.is.checked;
   onward = λ e. subst (λ (way : Bool). IsLogged way p m.block y q z) e m.logged;
   back = λ e. subst (λ (way : Bool). IsLogged way p m.block y q z) e m.logged;
 }

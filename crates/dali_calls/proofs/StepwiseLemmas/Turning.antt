@@ -1,5 +1,5 @@
 -- A plan that is refused, and where it ends.
-use Rattle.std.proofs.Common.{◌≡◌, ℕ, Bool, true, false, not, ◌||◌, Option, Some, None, refl, sym, ap, ◌∙◌}
+use Rattle.std.proofs.Common.{◌≡◌, ℕ, true, Option, Some, None, refl, sym, ap, ◌∙◌}
 use Rattle.dali_record.specs.declared.operations.Op.{Op}
 use Rattle.dali_system.specs.declared.want.Want.TheVariants.{Region, Nothing}
 use Rattle.dali_calls.specs.declared.plan.Phase.{Phase}

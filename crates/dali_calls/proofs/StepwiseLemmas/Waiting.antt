@@ -25,7 +25,7 @@ use Rattle.dali_runs.specs.State.{SystemState, VaultState, CoreState, row_of, st
 use Rattle.dali_runs.specs.Steps.{begun, op_logged, back_logged, solo_logged, done_logged, commit_logged, ended_logged, audit_begun, audit_ended, audit_record, granted, refused, in_state}
 use Rattle.dali_runs.specs.Keeps.{IsFree, with_system, with_region, with_touched, died, dead_in}
 use Rattle.dali_runs.specs.Regions.{RegionStep, Latch, NoteReads, Update, TakeBack, Poke, Check, Die, Clean, IsAlone, region_after}
-use Rattle.dali_runs.specs.Courses.{Begins, Operates, TakesBack, Frees, Answers, Commits, Ends, AuditBegins, AuditEnds, Locks, Refuses, OnRegion, Passes, Dies, Claims, GivesBack, Recovers, Stops, Checkpoints, Takes, Flushes, Faults, ReadFails, Moment}
+use Rattle.dali_runs.specs.Courses.{Step, Begins, Operates, TakesBack, Frees, Answers, Commits, Ends, AuditBegins, AuditEnds, Locks, Refuses, OnRegion, Passes, Dies, Claims, GivesBack, Recovers, Stops, Checkpoints, Takes, Flushes, Faults, ReadFails, Moment}
 use Rattle.dali_runs.specs.Facts.Plans.{AtWork}
 use Rattle.dali_runs.proofs.FactsLemmas.Ends.{others_leave}
 use Rattle.dali_calls.specs.Steps.{call_key, is_get}
@@ -33,6 +33,7 @@ use Rattle.dali_calls.specs.Operating.{IsOwn}
 use Rattle.dali_calls.specs.Others.{is_apart, is_apart_on}
 use Rattle.dali_calls.proofs.Rows.{row_apart}
 use Rattle.dali_runs.specs.Run.{covers}
+use Rattle.dali_calls.specs.Single.Single.{Look, look_behind, LeadsFrom}
 use Rattle.dali_calls.proofs.SingleLemmas.Going.{kept_apart}
 use Rattle.dali_calls.proofs.SingleLemmas.Calling.{lock_apart}
 use Rattle.dali_calls.proofs.SingleLemmas.Undoing.{ended_others}
@@ -255,16 +256,19 @@ own_in t u x None apart own = absurd own
 own_in t u x (Some g) apart own = own_on t u x g apart own
 
 pub own_apart : OwnStepIsApart
-own_apart precheck t u c (Operates v b) apart own = apart_from t u v own.0 apart
-own_apart precheck t u c (OnRegion r x) apart own = own_in t u x (slice_get c.regions r) apart own
-own_apart precheck t u c _ apart own = grind (arith, apart, own)
+own_apart t u c (Operates v b) apart own = apart_from t u v own apart
+own_apart t u c (OnRegion r x) apart own = own_in t u x (slice_get c.regions r) apart own
+own_apart t u c _ apart own = grind (arith, apart, own)
+
+led_from : (precheck : Bool) (t u : ℕ) (o : Look) (L M : List Record) (c d : CoreState) (xs : List Step) → (u == t) ≡ false → t < c.system.next → LeadsFrom precheck u o L c xs M d → LeavesBe t L c M d
+led_from precheck t u o L M c d [] apart less l = nothing t L M c d l.0 l.1
+led_from precheck t u o L M c d (x ∷ xs) apart less l =
+    let one = each_leaves t L l.0 c l.1 x less (own_apart t u c x apart l.2.1) l.2.0 in
+    let later : t < l.1.system.next = let up = one.next in omega (arith, less, up) in
+    further t L l.0 M c l.1 d one (led_from precheck t u (look_behind c x o) l.0 M l.1 d xs apart later l.3)
 
 pub led_leaves : LedLeavesBe
-led_leaves precheck t u L M c d [] apart less l = nothing t L M c d l.0 l.1
-led_leaves precheck t u L M c d (x ∷ xs) apart less l =
-    let one = each_leaves t L l.0 c l.1 x less (own_apart precheck t u c x apart l.2.1) l.2.0 in
-    let later : t < l.1.system.next = let up = one.next in omega (arith, less, up) in
-    further t L l.0 M c l.1 d one (led_leaves precheck t u l.0 M l.1 d xs apart later l.3)
+led_leaves precheck t u L M c d xs apart less l = led_from precheck t u None L M c d xs apart less l
 
 -- ---- who waits
 still_at : (t : ℕ) (L M : List Record) (c d : CoreState) (w : Working) → LeavesBe t L c M d → AtWork c.system.sizes L t w → AtWork d.system.sizes M t w

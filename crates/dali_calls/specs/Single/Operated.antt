@@ -22,8 +22,8 @@ pub record Operated (precheck : Bool) (p : Planned) (g : RegionState) (y : Syste
   pub goes : Goes p.txn g steps opened
   pub is_open : IsOpen opened p.txn block
   pub region : h ≡ touched opened
-  -- with precheck the codeword told no damage
-  pub checked : is_back p ≡ false → precheck ≡ true → opened.stray ≡ 0
+  -- with precheck its codeword told no damage where it was latched
+  pub checked : is_back p ≡ false → precheck ≡ true → g.stray ≡ 0
   pub onward : is_back p ≡ false → (z ≡ op_logged y p.txn block) × HasRoom y (Forward p.txn block) × GoesOn p block q
   pub back : is_back p ≡ true → (z ≡ back_logged y p.txn block) × (y.stop ≡ None) × (q ≡ went_back p)
 

@@ -18,7 +18,7 @@ use Rattle.dali_calls.specs.Single.Single.{IsOwnStep, Leads, OthersStay, StandAs
 use Rattle.dali_calls.specs.Single.Settling.{MayFree, IsCommitted, settle_room}
 
 abbrev pub OwnStepStandsAside : Type 0
-OwnStepStandsAside = (precheck : Bool) (t : ℕ) (L M : List Record) (c d : CoreState) (x : Step) → IsStep L c x M d → IsOwnStep precheck t c x → StandAside t L c M d
+OwnStepStandsAside = (t : ℕ) (L M : List Record) (c d : CoreState) (x : Step) → IsStep L c x M d → IsOwnStep t c x → StandAside t L c M d
 
 abbrev pub OwnStepsStandAside : Type 0
 OwnStepsStandAside = (precheck : Bool) (t : ℕ) (L M : List Record) (c d : CoreState) (xs : List Step) → Leads precheck t L c xs M d → StandAside t L c M d

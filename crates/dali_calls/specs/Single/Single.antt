@@ -1,8 +1,13 @@
 -- A core that one thread has alone, and what a whole call makes of it.
 --     is_end x                 the step x logs the answer of a call, a commit or an end
---     IsOwnStep precheck t c x         the step x is one of t's: it asks for a lock and is granted it, makes an operation on a region, or logs a record
---                              of t. With precheck an operation that goes on with a call is logged only where the codeword tells no damage
---     Leads precheck t L c xs M d      these steps of t, none of which is such an end, lead from the log L and the core c to the log M and the core d
+--     IsOwnStep t c x          the step x is one of t's: it asks for a lock and is granted it, makes an operation on a region, or logs a record of t
+--     Look                     what the last latch found: the region's number, and the region as it stood there
+--     look_behind c x o        the last look behind the step x of the core c, which was o before it
+--     LooksRight precheck o x  with precheck an operation that goes on with a call is logged only where its look, the latch of its region, found no
+--                              damage. What came to the region since then isn't asked
+--     LeadsFrom precheck t o L c xs M d        these steps of t, none of which is such an end, lead from the log L and the core c to the log M and the core d,
+--                              where the last look before them was o
+--     Leads precheck t L c xs M d      so they do where there was none: each operation among them has its look among them
 --     OthersStay y t z         each other transaction has the row and the locks that it had
 --     HoldsStay t c d          it has the regions latched that it had
 --     StandAside t L c M d     so it is, and the rules of the log have it where they had it
@@ -15,7 +20,8 @@
 --     AreCovered y t           each undo of t may be performed: it is on a region of its kind, and t has its key alone
 --     RunCovers                so it is at each point of a run
 --     Keeps y t z              the system has the sizes that it had, t its state, and undos that are covered where they were; and others stay
-use Rattle.std.specs.Prelude.{◌≡◌, ◌==◌, ◌<◌, ◌≤◌, ◌↔◌, ◌⊎◌, ℕ, Bool, true, false, List, [], ◌∷◌, ◌++◌, Some, IsSomeAnd, IfSome, slice_get}
+use Rattle.std.specs.Prelude.{◌≡◌, ◌==◌, ◌<◌, ◌≤◌, ◌↔◌, ◌⊎◌, ℕ, Bool, true, false, ⊤, List, [], ◌∷◌, ◌++◌, Option, Some, None, IsSomeAnd, slice_get}
+use Rattle.std.specs.Option.{option_map}
 use Rattle.std.specs.List.{AllByRecursion}
 use Rattle.dali_record.specs.declared.records.Answer.{Answer}
 use Rattle.dali_record.specs.declared.records.Call.{Call}
@@ -23,6 +29,7 @@ use Rattle.dali_record.specs.declared.records.Record.{Record}
 use Rattle.dali_record.specs.declared.records.Record.TheVariants.{Done}
 use Rattle.dali_record.specs.Legal.{Working, is_level, txn_state}
 use Rattle.dali_region.specs.declared.Hold.{Hold}
+use Rattle.dali_region.specs.State.{RegionState}
 use Rattle.dali_locks.specs.declared.mode.LockAnswer.TheVariants.{Wait as LockWait, Busy as LockBusy}
 use Rattle.dali_locks.specs.Locks.{IsAnswer}
 use Rattle.dali_att.specs.Table.{undos_at}
@@ -30,6 +37,7 @@ use Rattle.dali_runs.specs.State.{SystemState, CoreState, row_of, state_of, hold
 use Rattle.dali_runs.specs.Run.{Bases, RunsOn}
 use Rattle.dali_runs.specs.Keeps.{IsFree, with_system}
 use Rattle.dali_runs.specs.Steps.{refused}
+use Rattle.dali_runs.specs.Regions.{Latch}
 use Rattle.dali_runs.specs.Courses.{Step, Operates, TakesBack, Frees, Answers, Commits, Ends, Locks, OnRegion, IsStep}
 use Rattle.dali_runs.specs.Facts.Plans.{AtWork}
 use Rattle.dali_runs.specs.Facts.Undos.{MayBePerformed}
@@ -50,20 +58,41 @@ is_end (Commits t) = true
 is_end (Ends t) = true
 is_end x = false
 
-abbrev pub IsOwnStep : Bool → ℕ → CoreState → Step → Type 0
-IsOwnStep precheck t c (Locks u k m) = u ≡ t
-IsOwnStep precheck t c (OnRegion r x) = IsSomeAnd (slice_get c.regions r) (IsOwn t x)
-IsOwnStep precheck t c (Operates u b) = (u ≡ t) × (precheck ≡ true → IfSome (slice_get c.regions b.region) (λ g. g.stray ≡ 0))
-IsOwnStep precheck t c (TakesBack u b) = u ≡ t
-IsOwnStep precheck t c (Frees p b) = p ≡ t
-IsOwnStep precheck t c (Answers u call a) = u ≡ t
-IsOwnStep precheck t c (Commits u) = u ≡ t
-IsOwnStep precheck t c (Ends u) = u ≡ t
-IsOwnStep precheck t c x = ⊥
+abbrev pub IsOwnStep : ℕ → CoreState → Step → Type 0
+IsOwnStep t c (Locks u k m) = u ≡ t
+IsOwnStep t c (OnRegion r x) = IsSomeAnd (slice_get c.regions r) (IsOwn t x)
+IsOwnStep t c (Operates u b) = u ≡ t
+IsOwnStep t c (TakesBack u b) = u ≡ t
+IsOwnStep t c (Frees p b) = p ≡ t
+IsOwnStep t c (Answers u call a) = u ≡ t
+IsOwnStep t c (Commits u) = u ≡ t
+IsOwnStep t c (Ends u) = u ≡ t
+IsOwnStep t c x = ⊥
+
+-- ---- looks
+abbrev pub Look : Type 0
+Look = Option (ℕ × RegionState)
+
+abbrev pub look_behind : CoreState → Step → Look → Look
+look_behind c (OnRegion r (Latch u)) o = option_map (λ (g : RegionState). (r, g)) (slice_get c.regions r)
+look_behind c x o = o
+
+-- the look was at this region, and found it undamaged
+abbrev pub IsRightOn : ℕ → Look → Type 0
+IsRightOn r o = IsSomeAnd o (λ (l : ℕ × RegionState). (l.0 ≡ r) × (l.1.stray ≡ 0))
+
+abbrev pub LooksRight : Bool → Look → Step → Type 0
+LooksRight precheck o (Operates u b) = precheck ≡ true → IsRightOn b.region o
+LooksRight precheck o x = ⊤
+
+-- ---- steps, one behind another
+abbrev pub LeadsFrom : Bool → ℕ → Look → List Record → CoreState → List Step → List Record → CoreState → Type 0
+LeadsFrom precheck t o L c [] M d = (L ≡ M) × (c ≡ d)
+LeadsFrom precheck t o L c (x ∷ xs) M d =
+    (K : List Record) × (e : CoreState) × (IsStep L c x K e × IsOwnStep t c x × (is_end x ≡ false) × LooksRight precheck o x) × LeadsFrom precheck t (look_behind c x o) K e xs M d
 
 abbrev pub Leads : Bool → ℕ → List Record → CoreState → List Step → List Record → CoreState → Type 0
-Leads precheck t L c [] M d = (L ≡ M) × (c ≡ d)
-Leads precheck t L c (x ∷ xs) M d = (K : List Record) × (e : CoreState) × (IsStep L c x K e × IsOwnStep precheck t c x × (is_end x ≡ false)) × Leads precheck t K e xs M d
+Leads precheck t L c xs M d = LeadsFrom precheck t None L c xs M d
 
 -- ---- the other transactions
 abbrev pub OthersStay : SystemState → ℕ → SystemState → Type 0

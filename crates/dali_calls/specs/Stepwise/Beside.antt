@@ -37,7 +37,7 @@ abbrev pub CourseLeavesBe : Type 0
 CourseLeavesBe = (t : ℕ) (m n : Moment) (xs : List Step) → t < m.core.system.next → list_all (is_apart t) xs ≡ true → IsCourse m xs n → LeavesBe t m.log m.core n.log n.core
 
 abbrev pub OwnStepIsApart : Type 0
-OwnStepIsApart = (precheck : Bool) (t u : ℕ) (c : CoreState) (x : Step) → (u == t) ≡ false → IsOwnStep precheck u c x → is_apart t x ≡ true
+OwnStepIsApart = (t u : ℕ) (c : CoreState) (x : Step) → (u == t) ≡ false → IsOwnStep u c x → is_apart t x ≡ true
 
 abbrev pub LedLeavesBe : Type 0
 LedLeavesBe =

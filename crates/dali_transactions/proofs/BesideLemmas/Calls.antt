@@ -35,7 +35,7 @@ use Rattle.dali_calls.specs.Operating.{IsOwn}
 use Rattle.dali_calls.specs.Others.{is_apart, HoldStays}
 use Rattle.dali_calls.proofs.Rows.{row_here, row_apart}
 use Rattle.dali_calls.specs.Single.Stands.{core, IsAtRest, AtPlan}
-use Rattle.dali_calls.specs.Single.Single.{MayCall, IsOwnStep, Leads}
+use Rattle.dali_calls.specs.Single.Single.{MayCall, IsOwnStep, Look, look_behind, LeadsFrom, Leads}
 use Rattle.dali_calls.proofs.SingleLemmas.Standing.{own_steps_stand}
 use Rattle.dali_transactions.proofs.CoursesLemmas.Making.{own_steps_make, answer_makes}
 use Rattle.dali_clean.specs.Undone.{IsReclaimed}
@@ -70,22 +70,22 @@ own_calm_in : (t r : ℕ) (x : RegionStep) (o : Option RegionState) → IsSomeAn
 own_calm_in t r x None own = absurd own
 own_calm_in t r x (Some g) own = own_calm_on t r x g own
 
-own_calm : (precheck : Bool) (t : ℕ) (c : CoreState) (x : Step) → IsOwnStep precheck t c x → is_calm x ≡ true
-own_calm precheck t c (OnRegion r x) own = own_calm_in t r x (slice_get c.regions r) own
-own_calm precheck t c (Checkpoints b) own = absurd own
-own_calm precheck t c Takes own = absurd own
-own_calm precheck t c Flushes own = absurd own
-own_calm precheck t c (Faults n) own = absurd own
-own_calm precheck t c (ReadFails n) own = absurd own
-own_calm precheck t c _ own = refl
+own_calm : (t : ℕ) (c : CoreState) (x : Step) → IsOwnStep t c x → is_calm x ≡ true
+own_calm t c (OnRegion r x) own = own_calm_in t r x (slice_get c.regions r) own
+own_calm t c (Checkpoints b) own = absurd own
+own_calm t c Takes own = absurd own
+own_calm t c Flushes own = absurd own
+own_calm t c (Faults n) own = absurd own
+own_calm t c (ReadFails n) own = absurd own
+own_calm t c _ own = refl
 
-leads_calm : (precheck : Bool) (t : ℕ) (L M : List Record) (c d : CoreState) (xs : List Step) → Leads precheck t L c xs M d → list_all is_calm xs ≡ true
-leads_calm precheck t L M c d [] l = refl
-leads_calm precheck t L M c d (x ∷ xs) l = ap (λ b. b && list_all is_calm xs) (own_calm precheck t c x l.2.1) ∙ leads_calm precheck t l.0 M l.1 d xs l.3
+leads_calm : (precheck : Bool) (t : ℕ) (o : Look) (L M : List Record) (c d : CoreState) (xs : List Step) → LeadsFrom precheck t o L c xs M d → list_all is_calm xs ≡ true
+leads_calm precheck t o L M c d [] l = refl
+leads_calm precheck t o L M c d (x ∷ xs) l = ap (λ b. b && list_all is_calm xs) (own_calm t c x l.2.1) ∙ leads_calm precheck t (look_behind c x o) l.0 M l.1 d xs l.3
 
-leads_apart : (precheck : Bool) (t u : ℕ) (L M : List Record) (c d : CoreState) (xs : List Step) → (t == u) ≡ false → Leads precheck t L c xs M d → list_all (is_apart u) xs ≡ true
-leads_apart precheck t u L M c d [] away l = refl
-leads_apart precheck t u L M c d (x ∷ xs) away l = ap (λ b. b && list_all (is_apart u) xs) (own_apart precheck u t c x away l.2.1) ∙ leads_apart precheck t u l.0 M l.1 d xs away l.3
+leads_apart : (precheck : Bool) (t u : ℕ) (o : Look) (L M : List Record) (c d : CoreState) (xs : List Step) → (t == u) ≡ false → LeadsFrom precheck t o L c xs M d → list_all (is_apart u) xs ≡ true
+leads_apart precheck t u o L M c d [] away l = refl
+leads_apart precheck t u o L M c d (x ∷ xs) away l = ap (λ b. b && list_all (is_apart u) xs) (own_apart u t c x away l.2.1) ∙ leads_apart precheck t u (look_behind c x o) l.0 M l.1 d xs away l.3
 
 one_more : (p : Step → Bool) (x : Step) → p x ≡ true → list_all p (x ∷ []) ≡ true
 one_more p x e = ap (λ b. b && true) e
@@ -135,10 +135,10 @@ module _ {V : Type 0} (means : Ghosts V) where
       → Leads precheck t p.log (core gs y p.core.vault) steps (p.log ++ own) (core hs z p.core.vault) → AreDead hs → Went means t own s B p gs hs z v
   led_goes precheck t own s B p gs hs y z v steps k leads dead =
       course_goes means t own s B p gs hs y z v p.audits steps k
-      (leads_calm precheck t p.log (p.log ++ own) (core gs y p.core.vault) (core hs z p.core.vault) steps leads)
+      (leads_calm precheck t None p.log (p.log ++ own) (core gs y p.core.vault) (core hs z p.core.vault) steps leads)
       dead
       (from_here means s B p gs y v (moment hs z (p.log ++ own) p.core.vault p.audits) steps k (own_steps_make precheck t p.log (p.log ++ own) (core gs y p.core.vault) (core hs z p.core.vault) steps p.audits leads).0)
-      (λ u away lives. leads_apart precheck t u p.log (p.log ++ own) (core gs y p.core.vault) (core hs z p.core.vault) steps away leads)
+      (λ u away lives. leads_apart precheck t u None p.log (p.log ++ own) (core gs y p.core.vault) (core hs z p.core.vault) steps away leads)
 
   -- one step that logs these records, and leaves the regions
   step_goes : (t : ℕ) (own : List Record) (s : Start) (B : List (List Record)) (p : Point) (gs : List RegionState) (y z : SystemState) (v : Vaulted V) (x : Step) → StandsAt means s B p gs y v
@@ -231,13 +231,13 @@ module _ {V : Type 0} (means : Ghosts V) where
   pub die_goes : DieGoes means
   die_goes precheck s B p gs hs y z v plan k free death =
       course_goes means plan.txn [] s B p gs hs y z v p.audits (led.steps ++ death_step ∷ []) k
-      (all_append is_calm led.steps (death_step ∷ []) (leads_calm precheck plan.txn p.log p.log (core gs y p.core.vault) led.mid led.steps led.leads) refl)
+      (all_append is_calm led.steps (death_step ∷ []) (leads_calm precheck plan.txn None p.log p.log (core gs y p.core.vault) led.mid led.steps led.leads) refl)
       dead_now
       (from_here means s B p gs y v (moment hs z (p.log ++ []) p.core.vault p.audits) (led.steps ++ death_step ∷ []) k
       (join (moment gs y p.log p.core.vault p.audits) between (moment hs z (p.log ++ []) p.core.vault p.audits) led.steps (death_step ∷ [])
       (own_steps_make precheck plan.txn p.log p.log (core gs y p.core.vault) led.mid led.steps p.audits led.leads).0
       (one between (moment hs z (p.log ++ []) p.core.vault p.audits) death_step ((led.dies.0, (append-nil p.log, led.dies.1.1)), refl))))
-      (λ u away lives. all_append (is_apart u) led.steps (death_step ∷ []) (leads_apart precheck plan.txn u p.log p.log (core gs y p.core.vault) led.mid led.steps away led.leads) (one_more (is_apart u) death_step (apart_not plan.txn u away)))
+      (λ u away lives. all_append (is_apart u) led.steps (death_step ∷ []) (leads_apart precheck plan.txn u None p.log p.log (core gs y p.core.vault) led.mid led.steps away led.leads) (one_more (is_apart u) death_step (apart_not plan.txn u away)))
     where
       free_here : IsFree (core gs y p.core.vault) plan.txn
       free_here r h held = free r h (ap (λ (rs : List RegionState). hold_in (slice_get rs r)) k.at.regions ∙ held)
@@ -293,12 +293,12 @@ module _ {V : Type 0} (means : Ghosts V) where
 
       w : Went means t own s B p gs hs z v
       w = course_goes means t own s B p gs hs y z v p.audits (e.steps ++ Answers t call a ∷ []) k
-          (all_append is_calm e.steps (Answers t call a ∷ []) (leads_calm precheck t p.log e.log (core gs y p.core.vault) e.mid e.steps e.leads) refl)
+          (all_append is_calm e.steps (Answers t call a ∷ []) (leads_calm precheck t None p.log e.log (core gs y p.core.vault) e.mid e.steps e.leads) refl)
           dead_now
           (from_here means s B p gs y v (moment hs z (p.log ++ own) p.core.vault p.audits) (e.steps ++ Answers t call a ∷ []) k
           (subst (λ (l : List Record). IsCourse (moment gs y p.log p.core.vault p.audits) (e.steps ++ Answers t call a ∷ []) (moment hs z l p.core.vault p.audits)) log
           (answer_makes precheck p.log (core gs y p.core.vault) (core hs z p.core.vault) t call a p.audits e).0))
-          (λ u away lives. all_append (is_apart u) e.steps (Answers t call a ∷ []) (leads_apart precheck t u p.log e.log (core gs y p.core.vault) e.mid e.steps away e.leads) (one_more (is_apart u) (Answers t call a) (apart_not t u away)))
+          (λ u away lives. all_append (is_apart u) e.steps (Answers t call a ∷ []) (leads_apart precheck t u None p.log e.log (core gs y p.core.vault) e.mid e.steps away e.leads) (one_more (is_apart u) (Answers t call a) (apart_not t u away)))
 
   -- ---- an end, or a part of it
   -- with these records

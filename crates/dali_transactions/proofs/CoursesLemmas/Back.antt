@@ -1,5 +1,5 @@
 -- Behind an abort and behind a clean-up the records are as before.
-use Rattle.std.proofs.Common.{◌≡◌, ℕ, Bool, true, false, ◌||◌, List, [], ◌∷◌, ◌++◌, Some, refl, ap, sym, subst, ◌∙◌}
+use Rattle.std.proofs.Common.{◌≡◌, ℕ, Bool, true, false, ◌||◌, List, [], ◌∷◌, ◌++◌, Some, None, refl, ap, sym, subst, ◌∙◌}
 use Rattle.std.specs.Prelude.{◌==◌}
 use Rattle.std.specs.List.{list_any, list_all}
 use Rattle.std.proofs.lemmas.Bool.Decides.{Decides-eqb}
@@ -31,7 +31,7 @@ use Rattle.dali_crash.specs.Traces.{core_start}
 use Rattle.dali_crash.proofs.Traces.{core_starts}
 use Rattle.dali_during.specs.During.{image_of, IsTakenBack, CourseIsQuiet}
 use Rattle.dali_during.proofs.UnpokedCourses.{unpoked_courses}
-use Rattle.dali_calls.specs.Single.Single.{is_end, Leads}
+use Rattle.dali_calls.specs.Single.Single.{is_end, Look, look_behind, LeadsFrom}
 use Rattle.dali_clean.specs.Steps.{is_own_change, is_own_step}
 use Rattle.dali_clean.specs.Cleaned.{core, IsEnded as IsCleanedUp}
 use Rattle.dali_clean.proofs.Steps.{own_steps}
@@ -117,15 +117,15 @@ end_commits : (x : Step) → is_end x ≡ false → is_commit x ≡ false
 end_commits (Commits t) e = absurd cc
 end_commits _ e = refl
 
-leads_commit : (precheck : Bool) (t : ℕ) (L M : List Record) (c d : CoreState) (xs : List Step) → Leads precheck t L c xs M d → list_any is_commit xs ≡ false
-leads_commit precheck t L M c d [] leads = refl
-leads_commit precheck t L M c d (x ∷ xs) leads = ap (λ b. b || list_any is_commit xs) (end_commits x leads.2.2) ∙ leads_commit precheck t leads.0 M leads.1 d xs leads.3
+leads_commit : (precheck : Bool) (t : ℕ) (o : Look) (L M : List Record) (c d : CoreState) (xs : List Step) → LeadsFrom precheck t o L c xs M d → list_any is_commit xs ≡ false
+leads_commit precheck t o L M c d [] leads = refl
+leads_commit precheck t o L M c d (x ∷ xs) leads = ap (λ b. b || list_any is_commit xs) (end_commits x leads.2.2) ∙ leads_commit precheck t (look_behind c x o) leads.0 M leads.1 d xs leads.3
 
 pub abort_gives_back : AbortGivesBack
 abort_gives_back n t d q lives e =
     let makes = abort_makes n.log n.core d t n.audits e in
     behind n (record { log = e.log ++ Ended t ∷ []; core = d; audits = n.audits }) (e.steps ++ Ends t ∷ []) e.log t Live q makes.0 makes.1
-    (list_any-append is_commit e.steps (Ends t ∷ []) ∙ ap (λ b. b || list_any is_commit (Ends t ∷ [])) (leads_commit false t n.log e.log n.core e.mid e.steps e.leads)) refl lives refl
+    (list_any-append is_commit e.steps (Ends t ∷ []) ∙ ap (λ b. b || list_any is_commit (Ends t ∷ [])) (leads_commit false t None n.log e.log n.core e.mid e.steps e.leads)) refl lives refl
 
 -- ---- a clean-up
 own_is_quiet : (t : ℕ) (x : RegionStep) → is_own_change t x ≡ true → is_poke x ≡ false

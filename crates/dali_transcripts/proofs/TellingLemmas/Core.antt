@@ -1,7 +1,7 @@
 -- Each step of a core, with the deeds that tell it.
 use Rattle.std.proofs.Common.{◌≡◌, ℕ, ◌+◌, ◌<◌, ◌≤◌, Bool, true, false, List, [], ◌∷◌, ◌++◌, length, Option, Some, None, refl, ap, sym, subst, ◌∙◌, ⊎_elim, arith}
-use Rattle.std.specs.Prelude.{Contains, is_some, nat_le, IfSome, not, if◌then◌else◌, ◌==◌, slice_get, slice_set, sum_by, ◌↔◌, ◌≢◌, take}
-use Rattle.std.proofs.lemmas.List.{append-nil, take_all, length-set}
+use Rattle.std.specs.Prelude.{Contains, is_some, nat_le, not, if◌then◌else◌, ◌==◌, slice_get, slice_set, sum_by, ◌↔◌, ◌≢◌, take}
+use Rattle.std.proofs.lemmas.List.{append-nil, length-set}
 use Rattle.std.proofs.lemmas.Bool.{le-leb}
 use Rattle.std.proofs.lemmas.Option.{slice_get_within}
 use Rattle.dali_runs.proofs.CountsLemmas.Lists.{equal, same_number}
@@ -31,15 +31,14 @@ use Rattle.dali_runs.proofs.Courses.{audit_end_tells}
 use Rattle.dali_crash.specs.Checkpoints.{Point, moment_of}
 use Rattle.dali_crash.specs.StoreRuns.{StoreRun}
 use Rattle.dali_transcripts.specs.World.{Deed, Logs, World, IsLogged, logged_by, log_of, log_at, state_step, lock_step, IsNoWeaker, span_step, stray_after, under_way}
-use Rattle.dali_transcripts.specs.Rounds.{by, WasRight}
-use Rattle.dali_transcripts.specs.Together.{RoomBy, RightNow}
-use Rattle.dali_transcripts.proofs.Looks.{at_once_tells}
-use Rattle.dali_transcripts.specs.Telling.Deeds.{WereRight, BeganHere}
+use Rattle.dali_transcripts.specs.Rounds.{by}
+use Rattle.dali_transcripts.specs.Together.{RoomBy, RightBy, Owes}
+use Rattle.dali_transcripts.specs.Telling.Deeds.{HasLookedFor, BeganHere}
 use Rattle.dali_transcripts.specs.Telling.Tells.{after, AreRightThen, WasPassed, PassesAreTold, Tells, Goes}
 use Rattle.dali_transcripts.proofs.TellingLemmas.States.{begun_state, ended_state, kept_state, new_state, undone_state}
 use Rattle.dali_transcripts.proofs.TellingLemmas.Held.{ended_lock}
 use Rattle.dali_transcripts.proofs.TellingLemmas.Strays.{Stays, same_regions, one_region}
-use Rattle.dali_transcripts.proofs.TellingLemmas.Told.{Onward, plain, push_cases, push_before, log_is, passed_on, passes_on, OwesNow, goes_by, by_deed, by_none, looks_by_deed, looks_by_none}
+use Rattle.dali_transcripts.proofs.TellingLemmas.Told.{Onward, plain, push_cases, push_before, log_is, passed_on, passes_on, goes_by, by_deed, by_none}
 
 abbrev pub is_begin : Record → Bool
 is_begin AuditBegin = true
@@ -78,26 +77,23 @@ pub record Wrote (w : World) (c : ℕ) (R : Record) (d : CoreState) : Type 0 whe
   pub refusals : d.system.refusals ≡ w.core.system.refusals
   pub checking : d.system.checking ≡ w.core.system.checking
   pub room : RoomBy w (Logs R)
-  pub right : w.precheck ≡ true → RightNow w (Logs R)
+  pub right : w.precheck ≡ true → RightBy w c (Logs R)
   pub verdict : (b : ℕ) (found : List ℕ) → Logs R ≡ Logs (audit_record b found) → (r : ℕ) (g : RegionState) → slice_get w.old.regions r ≡ Some g
       → (j : ℕ) × (j ≤ length w.happened) × (b < length (log_at w j)) × (Contains found r ↔ (stray_after r g.stray (take j w.happened) ≢ 0))
 
 module _ (w : World) (c : ℕ) (p q : Point) (told : Tells w p) where
-  owes_log : (R : Record) (d : CoreState) → Wrote w c R d → OwesNow w (after w c (Logs R ∷ []) d) c (Logs R)
+  owes_log : (R : Record) (d : CoreState) → Wrote w c R d → Owes w (after w c (Logs R ∷ []) d) c (Logs R)
   owes_log R d h = record {
-    owes = record {
-      span = tt;
-      anchor = ap (λ v. v.current) h.vault;
-      poke = λ r g at. h.stays.each r g at;
-      verdict = λ b found e. h.verdict b found e;
-      state = h.states;
-      lock = h.locks;
-      fault = (ap (λ v. v.stopped) h.vault, ap (λ v. v.faults) h.vault);
-      refusal = h.refusals ∙ sym (append-nil w.core.system.refusals);
-      room = h.room;
-      right = λ e. at_once_tells.one w c (Logs R) (h.right e);
-    };
-    now = h.right;
+    span = tt;
+    anchor = ap (λ v. v.current) h.vault;
+    poke = λ r g at. h.stays.each r g at;
+    verdict = λ b found e. h.verdict b found e;
+    state = h.states;
+    lock = h.locks;
+    fault = (ap (λ v. v.stopped) h.vault, ap (λ v. v.faults) h.vault);
+    refusal = h.refusals ∙ sym (append-nil w.core.system.refusals);
+    room = h.room;
+    right = h.right;
   }
 
   began_before : (R : Record) (d : CoreState) → is_begin R ≡ false → (b : ℕ) → IsLogged (after w c (Logs R ∷ []) d) b AuditBegin → IsLogged w b AuditBegin
@@ -108,7 +104,7 @@ module _ (w : World) (c : ℕ) (p q : Point) (told : Tells w p) where
   pub told_log : (R : Record) (d : CoreState) → q.core ≡ d → q.log ≡ p.log ++ R ∷ [] → Wrote w c R d → PassesAreTold (after w c (Logs R ∷ []) d) q.audits → AreRightThen w c (Logs R ∷ []) q.core
       → Goes w c p (Logs R ∷ []) (after w c (Logs R ∷ []) q.core) q
   told_log R d is log h passes right =
-      goes_by w c p q told (Logs R ∷ []) d is h.onward log (by_deed w c p q told (Logs R) d h.onward (owes_log R d h)) (looks_by_deed w c p q told (Logs R) d h.onward (owes_log R d h)) (h.checking ∙ told.flag) passes right
+      goes_by w c p q told (Logs R ∷ []) d is h.onward log (by_deed w c p q told (Logs R) d h.onward (owes_log R d h)) (h.checking ∙ told.flag) passes right
 
   pub told_plain : (R : Record) (d : CoreState) → is_begin R ≡ false → q.core ≡ d → q.log ≡ p.log ++ R ∷ [] → q.audits ≡ p.audits → Wrote w c R d → AreRightThen w c (Logs R ∷ []) q.core
       → Goes w c p (Logs R ∷ []) (after w c (Logs R ∷ []) q.core) q
@@ -138,7 +134,7 @@ module _ (bases : Bases) (before : List Record) (w0 : World) (c : ℕ) (p q : Po
   -- what a step that logs a record owes, where it leaves the rest
   simple : (R : Record) (d : CoreState) → is_end R ≡ false → d.system.sizes ≡ p.core.system.sizes → d.system.limit ≡ p.core.system.limit → d.system.first ≡ p.core.system.first → d.system.stop ≡ p.core.system.stop
       → d.system.refusals ≡ p.core.system.refusals → d.vault ≡ p.core.vault → d.system.checking ≡ p.core.system.checking → length d.regions ≡ length p.core.regions → Stays p.core.regions d.regions
-      → ((t : ℕ) → state_of d.system t ≡ state_step t (state_of p.core.system t) (Logs R, c)) → ((t k : ℕ) (o : Option Mode) → IsNoWeaker (lock_of p.core.system t k) o → IsNoWeaker (lock_of d.system t k) (lock_step t k o (Logs R, c))) → RoomBy w (Logs R) → (w0.precheck ≡ true → RightNow w (Logs R)) → Wrote w c R d
+      → ((t : ℕ) → state_of d.system t ≡ state_step t (state_of p.core.system t) (Logs R, c)) → ((t k : ℕ) (o : Option Mode) → IsNoWeaker (lock_of p.core.system t k) o → IsNoWeaker (lock_of d.system t k) (lock_step t k o (Logs R, c))) → RoomBy w (Logs R) → (w0.precheck ≡ true → RightBy w c (Logs R)) → Wrote w c R d
   simple R d none sizes limit first stop refusals vault checking count stays states locks room right = record {
     onward = plain p.core d sizes limit first stop refusals vault count;
     stays = stays;
@@ -152,10 +148,6 @@ module _ (bases : Bases) (before : List Record) (w0 : World) (c : ℕ) (p q : Po
     verdict = λ b found e. absurd (no_end R none b found e);
   }
 
-  -- where stray writes cancel now, they cancel behind all that happened
-  was_right : (r : ℕ) (h : RegionState) → slice_get p.core.regions r ≡ Some h → h.stray ≡ 0 → (g : RegionState) → slice_get w0.old.regions r ≡ Some g → WasRight w (length w0.happened) r g
-  was_right r h at none g was = ap (stray_after r g.stray) (take_all (length w0.happened) w0.happened (omega arith)) ∙ (sym (told.together.pokes r g h was at).0 ∙ none)
-
   state_there : (o : Option State) (R : Record) → may_log_in o R ≡ true → (s : State) × (o ≡ Some s)
   state_there None R e = absurd (cc)
   state_there (Some s) R e = (s, refl)
@@ -167,21 +159,15 @@ module _ (bases : Bases) (before : List Record) (w0 : World) (c : ℕ) (p q : Po
       (simple _ _ refl refl refl refl refl refl refl refl refl (same_regions p.core.regions) (λ t. begun_state p.core.system.table p.core.system.next t) (λ t k o e. e) (within 9 room.room) (λ e. tt))
       proper
 
-  stray_at : (r : ℕ) (g : RegionState) (o : Option RegionState) → o ≡ Some g → IfSome o (λ (h : RegionState). h.stray ≡ 0) → g.stray ≡ 0
-  stray_at r g o at none = subst (λ (z : Option RegionState). IfSome z (λ (h : RegionState). h.stray ≡ 0)) at none
-
-  pub right_there : (r : ℕ) (g : RegionState) → slice_get p.core.regions r ≡ Some g → WereRight w p r → w0.precheck ≡ true → (g0 : RegionState) → slice_get w0.old.regions r ≡ Some g0 → WasRight w (length w0.happened) r g0
-  right_there r g at right e g0 was = was_right r g at (stray_at r g (slice_get p.core.regions r) at (right e)) g0 was
-
   touched_region : (r : ℕ) (g : RegionState) → slice_get p.core.regions r ≡ Some g → Stays p.core.regions (slice_set p.core.regions r (touched g))
   touched_region r g at = one_region p.core.regions r g (touched g) at refl refl
 
-  pub operates : (t : ℕ) (b : Block) (g : RegionState) → HasRoom p.core.system (Forward t b) → slice_get p.core.regions b.region ≡ Some g → WereRight w p b.region
+  pub operates : (t : ℕ) (b : Block) (g : RegionState) → HasRoom p.core.system (Forward t b) → slice_get p.core.regions b.region ≡ Some g → HasLookedFor w c (Logs (Forward t b))
       → q.core ≡ with_touched p.core (op_logged p.core.system t b) b.region g → q.log ≡ p.log ++ Forward t b ∷ [] → q.audits ≡ p.audits → AreRightThen w c (Logs (Forward t b) ∷ []) q.core
       → Goes w c p (Logs (Forward t b) ∷ []) (after w c (Logs (Forward t b) ∷ []) q.core) q
   operates t b g room at right is log audits proper =
       told_plain w c p q told (Forward t b) (with_touched p.core (op_logged p.core.system t b) b.region g) refl is log audits
-      (simple _ _ refl refl refl refl refl refl refl refl (length-set p.core.regions b.region (touched g)) (touched_region b.region g at) (λ u. undone_state p.core.system.table t b b.undo u) (λ t k o e. e) (within (record_length (Forward t b)) room.room) (right_there b.region g at right))
+      (simple _ _ refl refl refl refl refl refl refl refl (length-set p.core.regions b.region (touched g)) (touched_region b.region g at) (λ u. undone_state p.core.system.table t b b.undo u) (λ t k o e. e) (within (record_length (Forward t b)) room.room) right)
       proper
 
   pub takes_back : (t : ℕ) (b : Block) (g : RegionState) → slice_get p.core.regions b.region ≡ Some g
@@ -298,7 +284,7 @@ module _ (bases : Bases) (before : List Record) (w0 : World) (c : ℕ) (p q : Po
   end_room b [] = refl
   end_room b (r ∷ rs) = refl
 
-  end_right : (b : ℕ) (found : List ℕ) → RightNow w (Logs (audit_record b found))
+  end_right : (b : ℕ) (found : List ℕ) → RightBy w c (Logs (audit_record b found))
   end_right b [] = tt
   end_right b (r ∷ rs) = tt
 
@@ -356,7 +342,7 @@ module _ (bases : Bases) (before : List Record) (w0 : World) (c : ℕ) (p q : Po
   unseen d is log on stays states locks current stopped faults refusals checking passes =
       goes_by w c p q told [] d is on (log ∙ sym (append-nil p.log))
       (by_none w c p q told d on (record { anchor = current; poke = λ r h at. stays.each r h at; states = states; locks = locks; stopped = stopped; faults = faults; refusals = refusals }))
-      (looks_by_none w c p q told d on) (checking ∙ told.flag) passes tt
+      (checking ∙ told.flag) passes tt
 
   pub unseen_passes : (d : CoreState) → q.audits ≡ p.audits → PassesAreTold (after w c [] d) q.audits
   unseen_passes d audits = subst (λ A. PassesAreTold (after w c [] d) A) (sym audits) (passes_on w c [] d p.audits (none_began d) told.passes)
@@ -372,10 +358,10 @@ module _ (bases : Bases) (before : List Record) (w0 : World) (c : ℕ) (p q : Po
   other_began : (x : Deed) (d : CoreState) → logged_by (by c (x ∷ [])) ≡ [] → (b : ℕ) → IsLogged (after w c (x ∷ []) d) b AuditBegin → IsLogged w b AuditBegin
   other_began x d none b at = subst (λ l. slice_get l b ≡ Some AuditBegin) (log_is w c (x ∷ []) d ∙ (ap (λ l. log_of w ++ l) none ∙ append-nil (log_of w))) at
 
-  pub seen : (x : Deed) (d : CoreState) → logged_by (by c (x ∷ [])) ≡ [] → q.core ≡ d → q.log ≡ p.log → q.audits ≡ p.audits → Onward p.core d → OwesNow w (after w c (x ∷ []) d) c x
+  pub seen : (x : Deed) (d : CoreState) → logged_by (by c (x ∷ [])) ≡ [] → q.core ≡ d → q.log ≡ p.log → q.audits ≡ p.audits → Onward p.core d → Owes w (after w c (x ∷ []) d) c x
       → d.system.checking ≡ is_some (span_step (under_way w0.happened) (x, c)) → AreRightThen w c (x ∷ []) q.core
       → Goes w c p (x ∷ []) (after w c (x ∷ []) q.core) q
   seen x d none is log audits on owes flag right =
-      goes_by w c p q told (x ∷ []) d is on (log ∙ (sym (append-nil p.log) ∙ ap (λ l. p.log ++ l) (sym none))) (by_deed w c p q told x d on owes) (looks_by_deed w c p q told x d on owes) flag
+      goes_by w c p q told (x ∷ []) d is on (log ∙ (sym (append-nil p.log) ∙ ap (λ l. p.log ++ l) (sym none))) (by_deed w c p q told x d on owes) flag
       (subst (λ A. PassesAreTold (after w c (x ∷ []) d) A) (sym audits) (passes_on w c (x ∷ []) d p.audits (other_began x d none) told.passes))
       right

@@ -15,7 +15,6 @@ use Rattle.dali_transcripts.specs.World.{Deed, Meets, World, logged_by, log_at, 
 use Rattle.dali_transcripts.specs.Rounds.{by}
 use Rattle.dali_transcripts.proofs.Grown.{grows_on}
 use Rattle.dali_transcripts.proofs.Together.{together_at_first}
-use Rattle.dali_transcripts.proofs.Looks.{at_once_at_first}
 use Rattle.dali_transcripts.specs.Telling.Tells.{after, Tells, Goes}
 use Rattle.dali_transcripts.specs.Telling.Laws.{MeetsTells, CourseTells, GoesOn, RoundTells, StopIsTold}
 use Rattle.dali_transcripts.proofs.TellingLemmas.Steps.{step_tells, meets}
@@ -38,7 +37,7 @@ goes_on u v w c p q r ds es f g =
     }
 
 -- nothing was done
-none_done : (w : World) (c : ℕ) (p : Point) → Tells w p → Goes w c p [] (after w c [] p.core) p
+pub none_done : (w : World) (c : ℕ) (p : Point) → Tells w p → Goes w c p [] (after w c [] p.core) p
 none_done w c p told =
     let same : w ≡ after w c [] p.core = ap (λ k. record w { core = k }) told.core ∙ ap (λ l. record w { happened = l; core = p.core }) (sym (append-nil w.happened)) in
     subst (λ (v : World). Goes w c p [] v p) same (record { is = same; grows = (grows_on.still w).0; more = (grows_on.still w).1; tells = told })
@@ -68,7 +67,6 @@ round_tells bases before p precheck run between =
       log = sym (append-nil p.log);
       grew = (grows_on.still w).0;
       together = together_at_first w refl refl;
-      at_once = λ e. at_once_at_first w refl;
       count = refl;
       flag = between.rests.flag;
       right = tt;

@@ -10,7 +10,6 @@ use Rattle.dali_lists.proofs.Options.{none_of_test}
 use Rattle.dali_runs.proofs.CountsLemmas.Lists.{some_same, equal}
 use Rattle.dali_record.specs.declared.records.Record.{Record}
 use Rattle.dali_record.specs.declared.records.Record.TheVariants.{AuditBegin}
-use Rattle.dali_region.specs.declared.Hold.{Hold}
 use Rattle.dali_region.specs.declared.Side.{Side}
 use Rattle.dali_region.specs.declared.Side.TheVariants.{A, B}
 use Rattle.dali_region.specs.State.{RegionState, checked, dead, taken_back}
@@ -20,7 +19,7 @@ use Rattle.dali_att.specs.declared.state.State.TheVariants.{Live, Dead, Cleaning
 use Rattle.dali_att.specs.Table.{with_state}
 use Rattle.dali_runs.specs.declared.refusals.Refusal.{Refusal}
 use Rattle.dali_runs.specs.Run.{Bases, HasRisen, no_image}
-use Rattle.dali_runs.specs.State.{CoreState, VaultState, state_of, lock_of, hold_in}
+use Rattle.dali_runs.specs.State.{CoreState, VaultState, state_of, lock_of}
 use Rattle.dali_runs.specs.Steps.{audit_record, granted, refused, in_state, store_stopped, taken}
 use Rattle.dali_runs.specs.Flushes.{frame_of, with_vault, longer, faulted}
 use Rattle.dali_runs.specs.ImageSteps.{clears}
@@ -32,18 +31,16 @@ use Rattle.dali_crash.specs.Checkpoints.{StoreStep, Does, Starts, Keeps, Copies,
 use Rattle.dali_crash.specs.StoreRuns.{StoreRun}
 use Rattle.dali_transcripts.specs.Words.{Why, StoppedBy, Full, Damaged, StoreFailed, UnderWay}
 use Rattle.dali_transcripts.specs.World.{Deed, Logs, Strays, DiesOn, Claims as ClaimsTxn, GivesBack as GivesTxnBack, GetsLock, Yields, FindsDead, StartsCheckpoint, MovesAnchor, EndsCheckpoint, Meets, World, IsLogged, logged_by, state_step, lock_step, IsNoWeaker, stray_step, poked_step, stray_after, refused_by, under_way, log_of}
-use Rattle.dali_transcripts.specs.Rounds.{WasRight}
-use Rattle.dali_transcripts.specs.Together.{SpanFits, AnchorIs, FaultsBy, RoomBy, RightNow}
-use Rattle.dali_transcripts.proofs.Looks.{at_once_tells}
+use Rattle.dali_transcripts.specs.Together.{SpanFits, AnchorIs, FaultsBy, RoomBy, RightBy, Owes}
 use Rattle.dali_transcripts.proofs.Grown.{keeps_stop}
-use Rattle.dali_transcripts.specs.Telling.Deeds.{WereRight, AreOfCore, AreOf, refusal_now}
+use Rattle.dali_transcripts.specs.Telling.Deeds.{HasLookedFor, AreOfCore, AreOf, refusal_now}
 use Rattle.dali_transcripts.specs.Telling.Laws.{StepTells, IsNoFault}
 use Rattle.dali_transcripts.specs.Telling.Tells.{after, AreRightThen, WasPassed, PassesAreTold, Tells, Goes}
 use Rattle.dali_transcripts.proofs.TellingLemmas.States.{new_state, claim_state, release_state}
 use Rattle.dali_transcripts.proofs.TellingLemmas.Held.{told_lock, untold_lock}
 use Rattle.dali_transcripts.proofs.TellingLemmas.Strays.{Stays, same_regions, one_region, poked_region}
-use Rattle.dali_transcripts.proofs.TellingLemmas.Told.{Onward, plain, passed_on, passes_on, log_is, OwesNow, goes_by, by_deed, looks_by_deed}
-use Rattle.dali_transcripts.proofs.TellingLemmas.Core.{begins, operates, takes_back, frees, answers, commits, ends_txn, audit_begins, audit_ends, unseen, unseen_passes, quiet, seen, right_there}
+use Rattle.dali_transcripts.proofs.TellingLemmas.Told.{Onward, plain, passed_on, passes_on, log_is, goes_by, by_deed}
+use Rattle.dali_transcripts.proofs.TellingLemmas.Core.{begins, operates, takes_back, frees, answers, commits, ends_txn, audit_begins, audit_ends, unseen, unseen_passes, quiet, seen}
 
 longer_is : (v : VaultState) (frame : List Record) → ((longer v frame).current ≡ v.current) × ((longer v frame).stopped ≡ v.stopped) × ((longer v frame).faults ≡ v.faults) × (v.flushed ≤ (longer v frame).flushed)
 longer_is v [] = (refl, refl, refl, omega arith)
@@ -71,22 +68,19 @@ module _ (bases : Bases) (before : List Record) (w0 : World) (c : ℕ) (p q : Po
       → ((b : ℕ) (found : List ℕ) → x ≡ Logs (audit_record b found) → ⊥)
       → ((t : ℕ) → state_of d.system t ≡ state_step t (state_of p.core.system t) (x, c))
       → ((t k : ℕ) (o : Option Mode) → IsNoWeaker (lock_of p.core.system t k) o → IsNoWeaker (lock_of d.system t k) (lock_step t k o (x, c))) → FaultsBy w (after w c (x ∷ []) d) x
-      → d.system.refusals ≡ p.core.system.refusals ++ refused_by ((x, c) ∷ []) → RoomBy w x → (w0.precheck ≡ true → RightNow w x)
-      → OwesNow w (after w c (x ∷ []) d) c x
+      → d.system.refusals ≡ p.core.system.refusals ++ refused_by ((x, c) ∷ []) → RoomBy w x → (w0.precheck ≡ true → RightBy w c x)
+      → Owes w (after w c (x ∷ []) d) c x
   plain_owes x d span anchor poke none state lock fault refusal room right = record {
-    owes = record {
-      span = span;
-      anchor = anchor;
-      poke = poke;
-      verdict = λ b found e. absurd (none b found e);
-      state = state;
-      lock = lock;
-      fault = fault;
-      refusal = refusal;
-      room = room;
-      right = λ e. at_once_tells.one w c x (right e);
-    };
-    now = right;
+    span = span;
+    anchor = anchor;
+    poke = poke;
+    verdict = λ b found e. absurd (none b found e);
+    state = state;
+    lock = lock;
+    fault = fault;
+    refusal = refusal;
+    room = room;
+    right = right;
   }
 
   refuses : (t k : ℕ) (m : Mode) (h : ℕ) (x : Deed) → (x ≡ Yields (refusal_now p.core t k m h)) ⊎ (x ≡ FindsDead (refusal_now p.core t k m h))
@@ -130,7 +124,7 @@ module _ (bases : Bases) (before : List Record) (w0 : World) (c : ℕ) (p q : Po
       (plain_owes (Strays r i mask) _ tt refl (λ q' h at'. (poked_region p.core.regions r i mask g at).each q' h at') (λ b found e'. absurd (cc)) (λ u. refl) (λ u j o e. e) (refl, refl) (sym (append-nil p.core.system.refusals)) tt (λ e'. tt))
       told.flag (tt, tt)
 
-  on_region : (r : ℕ) (x : RegionStep) (g : RegionState) (ds : List Deed) → AreOfCore w p (OnRegion r x) ds → clears x ≡ false → slice_get p.core.regions r ≡ Some g
+  on_region : (r : ℕ) (x : RegionStep) (g : RegionState) (ds : List Deed) → AreOfCore w c p (OnRegion r x) ds → clears x ≡ false → slice_get p.core.regions r ≡ Some g
       → q.core ≡ with_region p.core r (region_after x g) → q.log ≡ p.log → q.audits ≡ p.audits → Goes w c p ds (after w c ds q.core) q
   on_region r (Latch t) g ds e other at is log audits = subst (λ es. Goes w c p es (after w c es q.core) q) (sym e) (changed_region r g (region_after (Latch t) g) at refl refl is log audits)
   on_region r (NoteReads mask) g ds e other at is log audits = subst (λ es. Goes w c p es (after w c es q.core) q) (sym e) (changed_region r g (region_after (NoteReads mask) g) at refl refl is log audits)
@@ -183,24 +177,14 @@ module _ (bases : Bases) (before : List Record) (w0 : World) (c : ℕ) (p q : Po
       (subst (λ A. PassesAreTold (after w c [] (with_region p.core r (checked g))) A) (sym audits) (passes_more (with_region p.core r (checked g)) b r))
 
   -- ---- deaths and claims
-  dies : (t r : ℕ) → MayDie p.core t (Some r) → WereRight w p r → q.core ≡ died p.core t (Some r) → q.log ≡ p.log → q.audits ≡ p.audits
+  dies : (t r : ℕ) → MayDie p.core t (Some r) → HasLookedFor w c (DiesOn t r) → q.core ≡ died p.core t (Some r) → q.log ≡ p.log → q.audits ≡ p.audits
       → Goes w c p (DiesOn t r ∷ []) (after w c (DiesOn t r ∷ []) q.core) q
   dies t r may right is log audits =
       let stays = dead_stays p.core.regions r in
       seen bases before w0 c p q run told (DiesOn t r) (died p.core t (Some r)) refl is log audits (plain _ _ refl refl refl refl refl refl stays.1)
       (plain_owes (DiesOn t r) _ tt refl (λ q' h at. stays.0.each q' h at) (λ b found e'. absurd (cc)) (λ u. new_state p.core.system.table t (with_state (Dead (Some r))) (Dead (Some r)) (λ row. refl) Live may.lives u) (λ u j o e. e) (refl, refl) (sym (append-nil p.core.system.refusals)) tt
-      (λ e' g0 was. right_here e' g0 was))
+      right)
       told.flag (tt, tt)
-    where
-      region : (o : Option RegionState) (h : Hold) → hold_in o ≡ Some h → (g : RegionState) × (o ≡ Some g)
-      region None h e = absurd (cc)
-      region (Some g) h e = (g, refl)
-
-      right_here : w0.precheck ≡ true → (g0 : RegionState) → slice_get w0.old.regions r ≡ Some g0 → WasRight w (length w0.happened) r g0
-      right_here e' g0 was =
-          let held = may.latched.held r refl in
-          let g = region (slice_get p.core.regions r) held.0 held.1 in
-          right_there bases before w0 c p q run told r g.0 g.1 right e' g0 was
 
   claims : (t : ℕ) (o : Option ℕ) → state_of p.core.system t ≡ Some (Dead o) → q.core ≡ with_system p.core (in_state p.core.system t (Cleaning o)) → q.log ≡ p.log → q.audits ≡ p.audits → AreRightThen w c (ClaimsTxn t ∷ []) q.core
       → Goes w c p (ClaimsTxn t ∷ []) (after w c (ClaimsTxn t ∷ []) q.core) q
@@ -241,7 +225,6 @@ pub meets : (w0 : World) (c : ℕ) (p : Point) (why : Why) → Tells (record w0 
 meets w0 c p why told none right =
     goes_by (record w0 { core = p.core }) c p p told (Meets why ∷ []) p.core refl on (sym (append-nil p.log))
     (by_deed (record w0 { core = p.core }) c p p told (Meets why) p.core on owes)
-    (looks_by_deed (record w0 { core = p.core }) c p p told (Meets why) p.core on owes)
     told.flag
     (passes_on (record w0 { core = p.core }) c (Meets why ∷ []) p.core p.audits (λ b at. subst (λ l. slice_get l b ≡ Some AuditBegin) (log_is (record w0 { core = p.core }) c (Meets why ∷ []) p.core ∙ append-nil (log_of w0)) at) told.passes)
     right
@@ -256,26 +239,23 @@ meets w0 c p why told none right =
     fault UnderWay h = (refl, refl)
     fault StoreFailed h = absurd h
 
-    owes : OwesNow (record w0 { core = p.core }) (after w0 c (Meets why ∷ []) p.core) c (Meets why)
+    owes : Owes (record w0 { core = p.core }) (after w0 c (Meets why ∷ []) p.core) c (Meets why)
     owes = record {
-      owes = record {
-        span = tt;
-        anchor = refl;
-        poke = λ r h at. (h, at, refl, refl);
-        verdict = λ b found e. absurd (cc);
-        state = λ t. refl;
-        lock = λ t k o h. h;
-        fault = fault why none;
-        refusal = sym (append-nil p.core.system.refusals);
-        room = tt;
-        right = λ e. tt;
-      };
-      now = λ e. tt;
+      span = tt;
+      anchor = refl;
+      poke = λ r h at. (h, at, refl, refl);
+      verdict = λ b found e. absurd (cc);
+      state = λ t. refl;
+      lock = λ t k o h. h;
+      fault = fault why none;
+      refusal = sym (append-nil p.core.system.refusals);
+      room = tt;
+      right = λ e. tt;
     }
 
 -- ---- each kind of step
 module _ (bases : Bases) (before : List Record) (w0 : World) (c : ℕ) (p q : Point) (run : StoreRun bases before no_image p) (told : Tells (record w0 { core = p.core }) p) where
-  at_core : (x : Step) (ds : List Deed) → is_of_checkpoint x ≡ false → IsStepAt (moment_of p) x (moment_of q) → AreOfCore (record w0 { core = p.core }) p x ds → AreRightThen (record w0 { core = p.core }) c ds q.core
+  at_core : (x : Step) (ds : List Deed) → is_of_checkpoint x ≡ false → IsStepAt (moment_of p) x (moment_of q) → AreOfCore (record w0 { core = p.core }) c p x ds → AreRightThen (record w0 { core = p.core }) c ds q.core
       → Goes (record w0 { core = p.core }) c p ds (after w0 c ds q.core) q
   at_core Begins ds other (s, audits) e right = subst (λ es. Goes (record w0 { core = p.core }) c p es (after w0 c es q.core) q) (sym e) (begins bases before w0 c p q run told s.0 s.1.1 s.1.0 audits (subst (λ es. AreRightThen (record w0 { core = p.core }) c es q.core) e right))
   at_core (Operates t b) ds other (s, audits) e right = subst (λ es. Goes (record w0 { core = p.core }) c p es (after w0 c es q.core) q) (sym e.0) (operates bases before w0 c p q run told t b s.0 s.1 s.2.at e.1 s.3.1 s.3.0 audits (subst (λ es. AreRightThen (record w0 { core = p.core }) c es q.core) e.0 right))

@@ -1,5 +1,5 @@
 -- What a client does keeps what a world tells, whatever the step is by which it does it.
-use Rattle.std.proofs.Common.{◌≡◌, ℕ, zero, suc, ◌<◌, true, List, [], ◌∷◌, ◌++◌, length, Some, None, refl, ap, sym, subst, ◌∙◌, ◌⊎◌, inl, inr, arith}
+use Rattle.std.proofs.Common.{◌≡◌, ℕ, zero, suc, ◌<◌, List, [], ◌∷◌, ◌++◌, length, Some, None, refl, ap, sym, subst, ◌∙◌, ◌⊎◌, inl, inr, arith}
 use Rattle.std.specs.Prelude.{fold, is_some, slice_get, take}
 use Rattle.std.proofs.lemmas.List.{append_assoc, take-append-le, length-append}
 use Rattle.std.proofs.lemmas.List.Elements.{filter_map-append}
@@ -11,10 +11,9 @@ use Rattle.dali_runs.specs.Passes.{Pass, Audits}
 use Rattle.dali_crash.specs.Checkpoints.{Point}
 use Rattle.dali_transcripts.specs.World.{Deed, World, IsLogged, record_of, logged_by, log_of, span_step, stray_after, under_way, Grows}
 use Rattle.dali_transcripts.specs.Causes.{AreRightFrom}
-use Rattle.dali_transcripts.specs.Rounds.{by, AreAtOnce, HoldsTogether}
-use Rattle.dali_transcripts.specs.Together.{RightNow, Owes, HasKept}
+use Rattle.dali_transcripts.specs.Rounds.{by, HoldsTogether}
+use Rattle.dali_transcripts.specs.Together.{Owes, HasKept}
 use Rattle.dali_transcripts.proofs.Together.{together_by_deed, together_by_none}
-use Rattle.dali_transcripts.proofs.Looks.{at_once_by_deed, at_once_by_none}
 use Rattle.dali_transcripts.proofs.Grown.{Onward as CoreOnward, plain as plain_core, grown, grows_on}
 use Rattle.dali_transcripts.proofs.Growing.{right_goes_on}
 use Rattle.dali_transcripts.specs.Telling.Tells.{after, AreRightThen, WasPassed, PassesAreTold, Tells, Goes}
@@ -69,17 +68,12 @@ module _ (w : World) (c : ℕ) (ds : List Deed) (d : CoreState) where
   pub passes_on : (A : Audits) → ((b : ℕ) → IsLogged (after w c ds d) b AuditBegin → IsLogged w b AuditBegin) → PassesAreTold w A → PassesAreTold (after w c ds d) A
   passes_on A began told b i x since is at = passed_on b x (told b i x since (began b is) at)
 
--- ---- what a deed owes in one thread
-pub record OwesNow (v w : World) (c : ℕ) (x : Deed) : Type 0 where
-  pub owes : Owes v w c x
-  pub now : v.precheck ≡ true → RightNow v x
-
 -- ---- what is told at a point
 module _ (w : World) (c : ℕ) (p q : Point) (told : Tells w p) where
-  pub goes_by : (ds : List Deed) (d : CoreState) → q.core ≡ d → Onward w.core d → q.log ≡ p.log ++ logged_by (by c ds) → HoldsTogether (after w c ds d) → (w.precheck ≡ true → AreAtOnce (after w c ds d))
+  pub goes_by : (ds : List Deed) (d : CoreState) → q.core ≡ d → Onward w.core d → q.log ≡ p.log ++ logged_by (by c ds) → HoldsTogether (after w c ds d)
       → d.system.checking ≡ is_some (fold span_step (under_way w.happened) (by c ds)) → PassesAreTold (after w c ds d) q.audits → AreRightThen w c ds q.core
       → Goes w c p ds (after w c ds q.core) q
-  goes_by ds d is on log together at_once flag passes right =
+  goes_by ds d is on log together flag passes right =
       let g = grows w c ds q.core (subst (λ k. Onward w.core k) (sym is) on) in
       record {
         is = refl;
@@ -91,21 +85,14 @@ module _ (w : World) (c : ℕ) (p q : Point) (told : Tells w p) where
           grew = (grows_on.further (record w { happened = []; core = w.old }) w (after w c ds q.core) told.grew g.0).0;
           count = ap (λ (k : CoreState). length k.regions) is ∙ (on.count ∙ told.count);
           together = subst (λ k. HoldsTogether (after w c ds k)) (sym is) together;
-          at_once = λ e. subst (λ k. AreAtOnce (after w c ds k)) (sym is) (at_once e);
           flag = ap (λ (k : CoreState). k.system.checking) is ∙ (flag ∙ ap is_some (sym (under_is w c ds q.core)));
           passes = subst (λ k. PassesAreTold (after w c ds k) q.audits) (sym is) passes;
           right = right_goes_on w (after w c ds q.core) g.0 told.right (subst (λ xs. AreRightFrom (after w c ds q.core) (length w.happened) xs) (sym g.1) right);
         };
       }
 
-  pub by_deed : (x : Deed) (d : CoreState) → Onward w.core d → OwesNow w (after w c (x ∷ []) d) c x → HoldsTogether (after w c (x ∷ []) d)
-  by_deed x d on o = let g = grows w c (x ∷ []) d on in together_by_deed w (after w c (x ∷ []) d) c x g.0 g.1 told.together o.owes
-
-  pub looks_by_deed : (x : Deed) (d : CoreState) → Onward w.core d → OwesNow w (after w c (x ∷ []) d) c x → w.precheck ≡ true → AreAtOnce (after w c (x ∷ []) d)
-  looks_by_deed x d on o e = let g = grows w c (x ∷ []) d on in at_once_by_deed w (after w c (x ∷ []) d) c x g.0 g.1 (told.at_once e) (o.now e)
+  pub by_deed : (x : Deed) (d : CoreState) → Onward w.core d → Owes w (after w c (x ∷ []) d) c x → HoldsTogether (after w c (x ∷ []) d)
+  by_deed x d on o = let g = grows w c (x ∷ []) d on in together_by_deed w (after w c (x ∷ []) d) c x g.0 g.1 told.together o
 
   pub by_none : (d : CoreState) → Onward w.core d → HasKept w (after w c [] d) → HoldsTogether (after w c [] d)
   by_none d on kept = let g = grows w c [] d on in together_by_none w (after w c [] d) g.0 g.1 told.together kept
-
-  pub looks_by_none : (d : CoreState) → Onward w.core d → w.precheck ≡ true → AreAtOnce (after w c [] d)
-  looks_by_none d on e = let g = grows w c [] d on in at_once_by_none w (after w c [] d) g.0 g.1 (told.at_once e)

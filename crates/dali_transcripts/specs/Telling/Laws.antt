@@ -6,15 +6,20 @@
 --     GoesOn                   what was done goes on with what is done next
 --     RoundTells               it holds where a round begins
 --     StopIsTold               where a store that failed has stopped the engine, the deeds tell why the engine is stopped, if it is
-use Rattle.std.specs.Prelude.{◌≡◌, ℕ, Bool, true, List, [], ◌∷◌, ◌++◌, IsSome, length}
+--     is_fault x               a store call fails in the step x
+--     FailureTells             the vault's fault and the system's stop behind it are told by one deed, made on both: who sees either value sees that deed, and
+--                              the deeds tell why the engine is stopped
+use Rattle.std.specs.Prelude.{◌≡◌, ℕ, ◌+◌, Bool, true, false, List, [], ◌∷◌, ◌++◌, IsSome, length}
 use Rattle.dali_record.specs.declared.records.Record.{Record}
 use Rattle.dali_runs.specs.Run.{Bases, no_image}
-use Rattle.dali_crash.specs.Checkpoints.{StoreStep, Point, IsPointStep}
+use Rattle.dali_runs.specs.Courses.{Faults, Stops}
+use Rattle.dali_crash.specs.Checkpoints.{StoreStep, Does, CopyFails, HeadFails, SyncFails, TurnFails, Point, IsPointStep}
 use Rattle.dali_crash.specs.StoreRuns.{StoreRun}
-use Rattle.dali_transcripts.specs.Words.{Why, StoppedBy, Full, Damaged, UnderWay}
+use Rattle.dali_transcripts.specs.Words.{Why, StoppedBy, Full, Damaged, StoreFailed, UnderWay}
 use Rattle.dali_transcripts.specs.World.{Deed, Meets, World, stop_at}
 use Rattle.dali_transcripts.specs.Rounds.{IsBetween}
 use Rattle.dali_transcripts.specs.Telling.Deeds.{AreOf}
+use Rattle.dali_transcripts.specs.Telling.Effects.{IsLeft}
 use Rattle.dali_transcripts.specs.Telling.Tells.{after, AreRightThen, Tells, Goes}
 
 abbrev pub StepTells : Type 0
@@ -57,3 +62,24 @@ StopIsTold =
     (bases : Bases) (before : List Record) (w : World) (p : Point) → StoreRun bases before no_image p → Tells w p
     → (p.core.vault.stopped ≡ true → IsSome p.core.system.stop)
     → stop_at w (length w.happened) ≡ p.core.system.stop
+
+-- ---- the store fails
+abbrev pub is_fault : StoreStep → Bool
+is_fault (Does (Faults n)) = true
+is_fault (CopyFails r ws n) = true
+is_fault (HeadFails head n) = true
+is_fault (SyncFails n) = true
+is_fault (TurnFails n) = true
+is_fault x = false
+
+pub record HasFailed (w : World) (c : ℕ) (p q : Point) : Type 0 where
+  pub goes : Goes w c p (Meets StoreFailed ∷ []) (after w c (Meets StoreFailed ∷ []) q.core) q
+  pub leaves : IsLeft (Meets StoreFailed) p.core q.core
+  pub vault : (p.core.vault.stopped ≡ false) × (q.core.vault.stopped ≡ true)
+  pub system : IsSome q.core.system.stop
+  pub told : stop_at (after w c (Meets StoreFailed ∷ []) q.core) (length w.happened + 1) ≡ q.core.system.stop
+
+abbrev pub FailureTells : Type 0
+FailureTells =
+    (bases : Bases) (before : List Record) (w : World) (c : ℕ) (p mid q : Point) (x : StoreStep) → StoreRun bases before no_image p → Tells w p
+    → is_fault x ≡ true → IsPointStep p x mid → IsPointStep mid (Does Stops) q → HasFailed w c p q

@@ -5,7 +5,7 @@
 --     PassesAreTold w audits   so did each pass of an audit of the round
 --     Tells w p                the world w tells of the point p: its log and core, and what a round says of all its clients together
 --     Goes w c p ds v q        the client c did these deeds, which lead from w and p to v and q
-use Rattle.std.specs.Prelude.{◌≡◌, ℕ, ◌<◌, ◌≤◌, true, is_some, List, [], ◌++◌, Some, length, slice_get, take}
+use Rattle.std.specs.Prelude.{◌≡◌, ℕ, ◌<◌, ◌≤◌, is_some, List, [], ◌++◌, Some, length, slice_get, take}
 use Rattle.dali_record.specs.declared.records.Record.TheVariants.{AuditBegin}
 use Rattle.dali_region.specs.State.{RegionState}
 use Rattle.dali_runs.specs.State.{CoreState}
@@ -13,7 +13,7 @@ use Rattle.dali_runs.specs.Passes.{Pass, Audits}
 use Rattle.dali_crash.specs.Checkpoints.{Point}
 use Rattle.dali_transcripts.specs.World.{Deed, World, IsLogged, log_of, log_at, stray_after, under_way, Grows}
 use Rattle.dali_transcripts.specs.Causes.{AreRightFrom, AreRight}
-use Rattle.dali_transcripts.specs.Rounds.{by, AreAtOnce, HoldsTogether}
+use Rattle.dali_transcripts.specs.Rounds.{by, HoldsTogether}
 
 abbrev pub after : World → (client : ℕ) → List Deed → CoreState → World
 after w c ds d = record w { happened = w.happened ++ by c ds; core = d }
@@ -37,8 +37,6 @@ pub record Tells (w : World) (p : Point) : Type 0 where
   pub log : p.log ≡ log_of w
   pub grew : Grows (record w { happened = []; core = w.old }) w
   pub together : HoldsTogether w
-  -- nothing comes between a look and its operation
-  pub at_once : w.precheck ≡ true → AreAtOnce w
   -- what this asks for while the round goes on
   pub count : length w.core.regions ≡ length w.old.regions
   pub flag : w.core.system.checking ≡ is_some (under_way w.happened)
