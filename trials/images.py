@@ -19,6 +19,10 @@ TABLE = 64 + 2 * 512
 """Where the table begins."""
 
 
+# Transaction 1 began, and a restart rolled it back: batches of 15, 14 and 22 bytes.
+RESTARTED = f.log(FIRST, f.batch(f.begin(1)), f.batch(f.restarted([1])))
+
+
 def image(table: bytes = f.table(), table_length: int | None = None, **fields: int) -> bytes:
     """The image with this table, and other numbers in these fields of its header."""
     return f.image(replace(HEADER, **fields), REGIONS, table, table_length)
@@ -51,6 +55,7 @@ TAKEN: list[tuple[str, Files, str]] = [
     ("no checkpoint, and gates behind the closed one", f.files(f.log(FIRST), anchor=b"\0\xa5"), NOBODY),
     ("three checkpoints", f.files(SHORT_LOG, image(number=3), anchor=b"\xa5\xa5\xa5\1"), NOBODY),
     ("an image that isn't current and has no header", f.files(f.log(FIRST), b"\1", b"", f.anchor()), NOBODY),
+    ("an image behind the last restart, whose lists aren't read", store(image(place=51, records=3, length=36, next=2), RESTARTED), NOBODY),
     ("the least numbers", store(image(place=15, records=1, length=0, next=1), f.log(FIRST)), NOBODY),
     ("one at work", store(image(undos())), lines("rolled back 3; deleted none; records 0")),
     ("two at work", store(image(f.table(f.entry(3), f.entry(8)))), lines("rolled back 3 8; deleted none; records 0")),

@@ -235,10 +235,19 @@ def written_twice() -> Case:
     return leaves("blocks are written in order, and the dead are freed", log, 2, ([], []), database)
 
 
+def behind_a_bare_restart() -> Case:
+    """A run over a log of the format and a restart's record, with no checkpoint: it commits 1, and its client dies in 2."""
+    script = lines("open; client 1; begin; insert 5 abc; commit; begin; die 2; insert 6 d; end; audit; crash 0; restart; show")
+    told = lines("rolled back none; deleted none; 1 begin 1; 1 insert ok; 1 commit ok; 1 begin 2; 1 died; audit clean; crash 0",
+                 "rolled back 2; deleted none; 5 abc; records 1")
+    return Case("a run behind a format and a restart", Run(script, told), f.files(log=log_of([[f.restarted()]]), anchor=f.anchor()))
+
+
 CASES = [
     *(taken(name, log_of(batches), told) for name, batches, told in TAKEN),
     *(refused(name, log_of(batches), at) for name, batches, at in REFUSED),
     *(refused(*row) for row in CUT),
     taken("bytes behind the last gate", BEGUN + b"\x01\xa5\xa5", rolled_back("1")),
     two_puts(), reader(), earlier_reader(), epoch_on_the_way(), two_failed_epochs(), dropped_records(), counted(), written_twice(),
+    behind_a_bare_restart(),
 ]

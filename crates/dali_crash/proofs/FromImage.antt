@@ -10,7 +10,7 @@ use Rattle.dali_lists.proofs.Lists.{length_take, length_take_least}
 use Rattle.dali_geometry.specs.Sizes.{Sizes}
 use Rattle.dali_record.specs.declared.records.Record.{Record}
 use Rattle.dali_record.specs.Log.{Touch, touch_of, txn_of}
-use Rattle.dali_record.specs.Epochs.{Epoch, epochs, clean_place}
+use Rattle.dali_record.specs.Epochs.{Epoch, clean_place}
 use Rattle.dali_record.specs.Files.{Files}
 use Rattle.dali_record.specs.Damage.{Damage, damage_of, has, is_first, any_touch, is_linked, mark_of, mark_step, marks, has_corrupt, any_txn, is_dropped, kept_from, kept}
 use Rattle.dali_record.specs.Settled.{redo, redo_all}
@@ -21,7 +21,7 @@ use Rattle.dali_record.proofs.Batches.{clean_grows}
 use Rattle.dali_history.specs.Recovered.{roll_back, freed, losers, undos_left}
 use Rattle.dali_runs.proofs.OneMoreTouch.{length-redo_all}
 use Rattle.dali_crash.specs.Fitting.{FitsWhole, RecoversFromImage}
-use Rattle.dali_crash.proofs.Fitting.{found_is, within_epoch}
+use Rattle.dali_crash.proofs.Fitting.{within_epoch}
 
 abbrev Marks : Type 0
 Marks = List (Record × Bool)
@@ -140,7 +140,7 @@ redone_from_image s base K F e fit = redone
         above = clean_grows e.first E
 
     within : k ≤ length front
-    within = length_take_least k c E (omega (arith, fit.fits.certified)) (within_epoch F.first e (found_is F.first (epochs K) e fit.fits.epoch))
+    within = length_take_least k c E (omega (arith, fit.fits.certified)) (within_epoch F.first K e fit.fits.count fit.fits.epoch)
 
     within_marks : k ≤ length A
     within_marks = omega (arith, within, length-marks d front)

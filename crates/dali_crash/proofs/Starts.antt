@@ -2,18 +2,17 @@
 use Rattle.std.proofs.Common.{◌≡◌, ℕ, zero, suc, ◌+◌, ◌-◌, ◌<◌, ◌≤◌, Bool, true, List, [], ◌∷◌, ◌++◌, length, take, drop, Some, refl, ap, sym, subst, ◌∙◌, inl, inr, ⊎_elim, arith}
 use Rattle.std.specs.Prelude.{map, filter, slice_get, sum_by, flat_map, not}
 use Rattle.std.proofs.lemmas.List.{take_all, take-append-le, length_push}
-use Rattle.dali_lists.proofs.Members.{all_push}
 use Rattle.dali_geometry.specs.Sizes.{Sizes}
 use Rattle.dali_geometry.specs.Places.{regions, formatted_image}
 use Rattle.dali_record.specs.declared.records.Record.{Record}
 use Rattle.dali_record.specs.declared.records.Record.TheVariants.{Format, Restarted}
 use Rattle.dali_record.specs.Log.{begun, ended}
-use Rattle.dali_record.specs.Epochs.{Epoch, Cut, cut, cut_step, last_epoch, recovered_epoch, next_number, epochs}
+use Rattle.dali_record.specs.Epochs.{Epoch, Cut, cut, cut_step, last_epoch, recovered_epoch, next_number}
 use Rattle.dali_record.specs.Damage.{has, rolled_list, deleted_list}
 use Rattle.dali_record.specs.Settled.{words_in, redo_all}
 use Rattle.dali_record.specs.Spelling.{record_length}
 use Rattle.dali_record.specs.Legal.{sizes_of}
-use Rattle.dali_record.specs.Files.{Files, batch_length, is_restarted_first, next_after, epoch_from, row_of}
+use Rattle.dali_record.specs.Files.{Files, batch_length, is_restarted_first, next_after, row_of}
 use Rattle.dali_record.proofs.Ends.{get_push_cases}
 use Rattle.dali_record.proofs.Pushes.{cut_push}
 use Rattle.dali_record.proofs.Batches.{number_is_length}
@@ -24,7 +23,7 @@ use Rattle.dali_crash.proofs.RecoveredWords.{recovered_count}
 use Rattle.dali_history.proofs.HeadlineLemmas.Headline.{restart_is_right}
 use Rattle.dali_runs.specs.Run.{Bases, base_at, log_in}
 use Rattle.dali_runs.specs.Images.{FitsBut}
-use Rattle.dali_runs.proofs.LastEpochs.{found_for, sooner, end_before}
+use Rattle.dali_runs.proofs.LastEpochs.{epoch_of}
 use Rattle.dali_crash.specs.Starts.{IsFormatted, IsRestarted, FreshFits, RestartStarts, IsLawful, HistoryIsLawful}
 
 -- ---- an epoch without records
@@ -63,7 +62,7 @@ formatted_fits s bases missed F is base whole = record {
   fresh = λ h. (is.place, is.first, is.table, is.image);
   current = λ h. absurd (omega (arith, h, is.gates));
   whole = ap length is.image ∙ whole;
-  epoch = ap (λ n. epoch_from n (epochs (Format s.index s.heap ∷ []))) is.first;
+  epoch = epoch_of (Format s.index s.heap ∷ []) F.first (omega (arith, is.first));
   recent = inr refl;
   certified = omega (arith, is.first);
   table_is = is.table ∙ no_rows (F.first - 1);
@@ -131,7 +130,7 @@ restarted_fits s bases missed L F is base whole log = subst (FitsBut s bases mis
   fresh = λ h. absurd (omega (arith, h, is.gates));
   current = λ h. is.number;
   whole = whole;
-  epoch = found;
+  epoch = epoch_of L F.first (subst (λ (d : Epoch). d.first ≤ F.first + 1) (sym last) (omega (arith, is.first, number_is_length M))) ∙ last;
   recent = inr (sym last);
   certified = omega (arith, is.first, number_is_length M);
   table_is = is.table ∙ no_rows (F.first - e.first);
@@ -161,18 +160,6 @@ restarted_fits s bases missed L F is base whole log = subst (FitsBut s bases mis
 
     behind : (j : ℕ) (b : List Record) → length is.older ≤ j → slice_get (is.older ++ (x ∷ []) ∷ []) j ≡ Some b → is_restarted_first b ≡ true
     behind j b h f = ⊎_elim (λ old. absurd (omega (arith, old.0, h))) (λ new. subst (λ z. is_restarted_first z ≡ true) new.1 refl) (get_push_cases is.older (x ∷ []) j b f)
-
-    some : 0 < length (last_epoch M).records
-    some = omega (arith, ap length is.some.2)
-
-    found : epoch_from F.first (epochs L) ≡ Some e
-    found =
-        ap (λ (c : Cut). epoch_from F.first (c.closed ++ c.now ∷ [])) parts
-        ∙ found_for F.first ((cut M).closed ++ (cut M).now ∷ []) e
-        (all_push (λ (d : Epoch). (next_number d ≤ F.first) × (d.first < F.first)) (cut M).closed (cut M).now
-        (sooner (last_epoch M).first F.first (cut M).closed (omega (arith, is.first, number_is_length M)) (end_before M))
-        (omega (arith, is.first, number_is_length M), omega (arith, is.first, number_is_length M, some)))
-        (inl (omega (arith, is.first, number_is_length M)))
 
 pub fresh_fits : FreshFits
 fresh_fits bases L F missed base is = subst (λ K. FitsBut (sizes_of L) bases missed K F (last_epoch K)) (sym is.log) (⊎_elim formatted restarted is.kind)

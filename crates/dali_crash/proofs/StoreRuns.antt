@@ -479,7 +479,7 @@ dirty_told told c t r g ws at dirty files s q h e clean cleared = by_test (same_
 
 -- ---- the anchor moves
 -- there is a region, which was brought up to date between the checkpoint's start and the audit's begin
-later_than : (bases : Bases) (before : List Record) (old : Files → Type 0) (st : Point) (h : Head) (b k : ℕ) → StoreRun bases before old st → MayTurn st h b k → h.first ≤ b
+pub later_than : (bases : Bases) (before : List Record) (old : Files → Type 0) (st : Point) (h : Head) (b k : ℕ) → StoreRun bases before old st → MayTurn st h b k → h.first ≤ b
 later_than bases before old st h b k run may = let w = may.copies 0 some in omega (arith, w.2.since, w.2.until)
   where
     on : RunsOn bases st.log st.core

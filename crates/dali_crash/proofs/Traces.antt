@@ -1,11 +1,11 @@
 -- Each crash image that came along steps fits and restarts right.
-use Rattle.std.proofs.Common.{◌≡◌, ℕ, length, take, drop, ◌+◌, ◌-◌, ◌*◌, ◌≤◌, Bool, true, false, List, [], ◌∷◌, ◌++◌, Some, refl, ap, sym, subst, ◌∙◌, inl, inr, ⊎_elim, arith, map}
+use Rattle.std.proofs.Common.{◌≡◌, ℕ, length, take, drop, ◌+◌, ◌-◌, ◌*◌, ◌≤◌, ◌<◌, Bool, true, false, List, [], ◌∷◌, ◌++◌, Some, refl, ap, sym, subst, ◌∙◌, inl, inr, ⊎_elim, arith, map}
 use Rattle.std.specs.Prelude.{◌^◌, ◌⊎◌, None, fold, sum_by, slice_get, Contains}
-use Rattle.std.proofs.lemmas.List.{take_all}
+use Rattle.std.proofs.lemmas.List.{take_all, length_push}
 use Rattle.dali_geometry.specs.Sizes.{Sizes}
 use Rattle.dali_geometry.specs.Places.{formatted_image}
 use Rattle.dali_record.specs.declared.records.Record.{Record}
-use Rattle.dali_record.specs.declared.records.Record.TheVariants.{Format}
+use Rattle.dali_record.specs.declared.records.Record.TheVariants.{Format, Restarted}
 use Rattle.dali_record.specs.Log.{committed}
 use Rattle.dali_record.specs.Epochs.{Epoch, Cut, cut, last_epoch, clean_place}
 use Rattle.dali_record.specs.Settled.{words_in, redo_all, settled_before}
@@ -33,7 +33,7 @@ use Rattle.dali_crash.proofs.Courses.{format_of, honest_before, course_keeps_the
 use Rattle.dali_crash.proofs.Restarts.{sizes_take, begins_behind, run_is_right_for, flushed_stays_in, acknowledged_stays, run_is_right}
 use Rattle.dali_crash.proofs.Fitting.{but_is_whole}
 use Rattle.dali_crash.proofs.FromImage.{recovers_from_image}
-use Rattle.dali_crash.specs.Starts.{IsLawful}
+use Rattle.dali_crash.specs.Starts.{IsLawful, IsRestarted}
 use Rattle.dali_crash.proofs.Starts.{fresh_fits}
 use Rattle.dali_crash.proofs.StoreRuns.{store_course_keeps}
 use Rattle.dali_crash.proofs.StoreStarts.{all_dirty, store_base, recovers}
@@ -70,6 +70,9 @@ trace_goes_on start p q D E F [] x t s came = (q, F, subst (λ (r : Point). IsPo
 trace_goes_on start p q D E F (y ∷ xs) x t s came = (t.0, t.1, t.2, t.3, trace_goes_on t.0 p q t.1 E F xs x t.4 s came)
 
 -- ---- where a core is made
+stands_behind : (L : List Record) (D : Files) → (is : IsRestarted L D) → log_in D ≡ L → D.first < length (log_in D)
+stands_behind L D is log = omega (arith, is.first, ap length log, ap length is.log, length_push is.closed (Restarted is.rolled is.deleted))
+
 pub fresh_rests : FreshRests
 fresh_rests L v D fresh = record {
   vault = fresh.vault;
@@ -80,10 +83,11 @@ fresh_rests L v D fresh = record {
       (recovered_count (sizes_of L) L) (λ r h. refl));
   end = fresh.end;
   current = fresh.current;
+  read = ⊎_elim (λ formatted. inl formatted.gates) (λ restarted. inr (stands_behind L D restarted fresh.files.log)) fresh.files.kind;
 }
 
 pub crash_rests : CrashRests
-crash_rests before c F v right none vault end current = record { vault = vault; none = none; files = right.image.fits; end = end; current = current }
+crash_rests before c F v right none vault end current read = record { vault = vault; none = none; files = right.image.fits; end = end; current = current; read = read }
 
 whole_short : (L : List Record) (v : VaultState) → MayRun L v → v.end ≤ sum_by record_length (take (length L) L) + 5 * length L
 whole_short L v may = subst (λ K. v.end ≤ sum_by record_length K + 5 * length L) (sym (take_all (length L) L (omega arith))) may.short

@@ -55,7 +55,7 @@ turned_fits s bases missed L v leave D h image b k m kept l at within clean late
   fresh = λ g. absurd (omega (arith, g));
   current = λ g. number;
   whole = whole;
-  epoch = epoch_of K h.first (subst (λ (d : Epoch). d.first ≤ h.first) (sym last) kept.from) (omega (arith, number_is_length K, size, later, ends, flushed));
+  epoch = epoch_of K h.first (subst (λ (d : Epoch). d.first ≤ h.first + 1) (sym last) (omega (arith, kept.from)));
   recent = inr refl;
   certified = subst (λ (d : Epoch). h.first ≤ clean_place d) (sym last) (omega (arith, later, above));
   table_is = subst (λ (d : Epoch). h.table ≡ table_before d h.first) (sym last) (kept.table ∙ ap (λ P. map (row_of P) (filter (λ t. not (has (ended P) t)) (begun P))) (sym (take-take (h.first - e.first) (m - e.first) e.records (omega (arith, later, ends, flushed)))));

@@ -5,6 +5,7 @@
 --     TraceGoesOn              one step more
 --     Start                    a log, and what is known of the store, where a core is made
 --     MayRun L v               what is asked of the vault of a core that is made over the log L
+--     IsRead D                 a record stands behind the image of D, where a gate is open
 --     IsRestingImage L v D     the crash image D fits the log L, whose last epoch is empty
 --     IsFreshImage L v D, FreshRests       it is that of a log that was just formatted or restarted: then it does
 --     CrashRests               what a crash of a run left does, where the last epoch of its log is empty
@@ -71,6 +72,11 @@ pub record MayRun (L : List Record) (v : VaultState) : Type 0 where
   pub short : v.end ≤ sum_by record_length L + 5 * length L
   pub moved : v.current ≤ length L + 2 ^ 61
 
+-- A restart reads the lists of the last Restarted, since that stands behind the image; or no gate of the anchor is open, and then it reads all but
+-- the Format. An image that stands behind the last Restarted, as no checkpoint and no restart leaves it, isn't such
+abbrev pub IsRead : Files → Type 0
+IsRead D = (D.gates ≡ 0) ⊎ (D.first < length (log_in D))
+
 -- the image fits the log at its last epoch, which is empty; the vault knows where the log ends and which image is current
 pub record IsRestingImage (L : List Record) (v : VaultState) (D : Files) : Type 0 where
   pub vault : MayRun L v
@@ -78,6 +84,8 @@ pub record IsRestingImage (L : List Record) (v : VaultState) (D : Files) : Type 
   pub files : FitsWhole (sizes_of L) (base_of (sizes_of L) L) L D (last_epoch L)
   pub end : v.end ≡ sum_by batch_length D.batches
   pub current : D.gates ≡ v.current
+  -- behind the image stands the Restarted that ends the log, so its lists are read; or the log is that of a format
+  pub read : IsRead D
 
 -- right after a format or a restart
 pub record IsFreshImage (L : List Record) (v : VaultState) (D : Files) : Type 0 where
@@ -95,16 +103,15 @@ abbrev pub CrashRests : Type 0
 CrashRests =
     (before : List Record) (c : CoreState) (F : Files) (v : VaultState) → CrashIsRightWith before c F
     → (last_epoch (log_in F)).records ≡ [] → MayRun (log_in F) v
-    → v.end ≡ sum_by batch_length F.batches → F.gates ≡ v.current
+    → v.end ≡ sum_by batch_length F.batches → F.gates ≡ v.current → IsRead F
     → IsRestingImage (log_in F) v F
 
--- files that fit, and behind whose image no record stands or Restarted alone, fit at the last epoch, but where that
--- Restarted closed an epoch without a record
+-- files that fit, and behind whose image no record stands or Restarted alone, fit at the last epoch
 abbrev pub FitsAtLast : Type 0
 FitsAtLast =
     (L : List Record) (base : List (List ℕ)) (D : Files) (e : Epoch) → IsLawful L → (last_epoch L).records ≡ []
     → Fits (sizes_of L) base L D e → length L ≤ D.first + 1
-    → (e ≡ last_epoch L) ⊎ (e.records ≡ [])
+    → e ≡ last_epoch L
 
 -- a legal log, honest or not: what speaks of records asks for a history besides
 pub record StartsAt (s : Start) (D : Files) : Type 0 where

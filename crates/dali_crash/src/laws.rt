@@ -192,14 +192,14 @@ pub fn a_fresh_store_is_at_rest()
     ensures { FreshRests }
 {}
 
-/// So does a crash image of a run that restarts right, where its log has no record in its last epoch: a core may be made
-/// over it as it is.
+/// So does a crash image of a run that restarts right, where its log has no record in its last epoch, and one stands behind its
+/// image or no gate is open: a core may be made over it as it is.
 pub fn a_crash_image_may_be_at_rest()
     ensures { CrashRests }
 {}
 
 /// Files that fit a lawful log at rest, and behind whose image no record stands or Restarted alone, as a restart leaves
-/// them, fit at its last epoch, but where that Restarted closed an epoch without a record.
+/// them, fit at its last epoch.
 pub fn files_that_a_restart_leaves_fit_at_the_last_epoch()
     ensures { FitsAtLast }
 {}

@@ -1,6 +1,6 @@
 -- What one more batch at the end of a log does to its epochs, and to files that fit it.
 use Rattle.std.proofs.Common.{◌≡◌, ◌≢◌, ℕ, zero, suc, ◌+◌, ◌-◌, ◌<◌, ◌≤◌, Bool, true, false, cond, List, [], ◌∷◌, ◌++◌, length, take, drop, Option, Some, None, refl, ap, sym, subst, ◌∙◌, inl, inr, ⊎_elim, append_assoc, arith}
-use Rattle.std.specs.Prelude.{not, ◌||◌, nat_le, nat_lt, fold, flat_map, sum_by, map, filter, slice_get, unwrap_or}
+use Rattle.std.specs.Prelude.{not, fold, flat_map, sum_by, map, filter, slice_get, unwrap_or}
 use Rattle.std.specs.List.{AllByRecursion, list_any, find}
 use Rattle.std.proofs.lemmas.List.{append-nil, length-append, length_push, take_all, take-append-le, drop-append-le}
 use Rattle.std.proofs.lemmas.List.Sums.{fold-append}
@@ -13,11 +13,11 @@ use Rattle.dali_geometry.specs.Sizes.{Sizes}
 use Rattle.dali_record.specs.declared.records.Record.{Record}
 use Rattle.dali_record.specs.declared.records.Record.TheVariants.{Format, Begin, Forward, Done, Commit, Ended, Solo, AuditBegin, AuditClean, AuditFail, Restarted, Back}
 use Rattle.dali_record.specs.Log.{Touch, touch_of, begun, ended}
-use Rattle.dali_record.specs.Epochs.{separates, Epoch, Cut, next_number, cut_step, cut, last_epoch, epochs, recovered_or, recovered_epoch, clean_step, clean_place, failing_step, failing}
+use Rattle.dali_record.specs.Epochs.{separates, Epoch, Cut, next_number, cut_step, cut, last_epoch, recovered_or, recovered_epoch, clean_step, clean_place, failing_step, failing}
 use Rattle.dali_record.specs.Damage.{has}
 use Rattle.dali_record.specs.Settled.{words_in, redo, redo_touch, redo_all}
 use Rattle.dali_record.specs.Spelling.{record_length}
-use Rattle.dali_record.specs.Files.{Files, batch_length, is_restarted, is_restarted_first, with_batch, row_of, next_after, is_epoch_for, epoch_from, Fits}
+use Rattle.dali_record.specs.Files.{Files, batch_length, is_restarted, is_restarted_first, with_batch, row_of, next_after, ends_behind, epoch_from, Fits}
 use Rattle.dali_record.specs.Blocks.{rewritten}
 use Rattle.dali_record.proofs.Ends.{by_push, get_push_cases, last_of_push}
 use Rattle.dali_record.proofs.Pushes.{cut_push}
@@ -105,49 +105,38 @@ number_is_length L = by_push (λ M. next_number (last_epoch M) ≡ length M) ref
     step M r ih = ap (λ (c : Cut). next_number c.now) (cut_push M r) ∙ omega (arith, number_step (cut M) r, ih, length_push M r)
 
 -- ---- the epoch of a number
-found_last : {X : Type 0} (p : X → Bool) (xs : List X) (x : X) → AllByRecursion (λ z. p z ≡ false) xs → p x ≡ true → find p (xs ++ x ∷ []) ≡ Some x
-found_last p [] x h e = rw e refl
-found_last p (z ∷ xs) x h e = rw h.0 (found_last p xs x h.1 e)
-
-found_still : {X : Type 0} (p : X → Bool) (xs ys : List X) (x : X) → find p xs ≡ Some x → find p (xs ++ ys) ≡ Some x
-found_still p [] ys x e = absurd (cc)
-found_still p (z ∷ xs) ys x e = by_test (p z) (found_still p xs ys x) e
+found_last : {X : Type 0} (p : X → Bool) (xs : List X) (x : X) → find p xs ≡ None → p x ≡ true → find p (xs ++ x ∷ []) ≡ Some x
+found_last p [] x none e = rw e refl
+found_last p (z ∷ xs) x none e = by_test (p z) (λ later. found_last p xs x later e) none
   where
-    by_test : (c : Bool) → (find p xs ≡ Some x → find p (xs ++ ys) ≡ Some x) → cond c (Some z) (find p xs) ≡ Some x → cond c (Some z) (find p (xs ++ ys)) ≡ Some x
-    by_test true later f = f
+    by_test : (c : Bool) → (find p xs ≡ None → find p (xs ++ x ∷ []) ≡ Some x) → cond c (Some z) (find p xs) ≡ None → cond c (Some z) (find p (xs ++ x ∷ [])) ≡ Some x
+    by_test true later f = absurd (cc)
     by_test false later f = later f
 
-none_before : {X : Type 0} (p : X → Bool) (xs : List X) (x : X) → AllByRecursion (λ z. z ≡ x → ⊥) xs → find p (xs ++ x ∷ []) ≡ Some x → AllByRecursion (λ z. p z ≡ false) xs × (p x ≡ true)
-none_before p [] x other e = (tt, by_test (p x) e)
+none_found : {X : Type 0} (p : X → Bool) (xs : List X) (x y : X) → AllByRecursion (λ z. z ≡ y → ⊥) xs → unwrap_or (find p xs) x ≡ y → find p xs ≡ None
+none_found p [] x y other e = refl
+none_found p (z ∷ xs) x y other e = by_test (p z) (none_found p xs x y other.1) e
   where
-    by_test : (c : Bool) → cond c (Some x) None ≡ Some x → c ≡ true
-    by_test true f = refl
-    by_test false f = absurd (cc)
-none_before p (z ∷ xs) x other e = by_test (p z) refl (none_before p xs x other.1) e
-  where
-    by_test :
-        (c : Bool) → p z ≡ c
-        → (find p (xs ++ x ∷ []) ≡ Some x → AllByRecursion (λ y. p y ≡ false) xs × (p x ≡ true))
-        → cond c (Some z) (find p (xs ++ x ∷ [])) ≡ Some x → AllByRecursion (λ y. p y ≡ false) (z ∷ xs) × (p x ≡ true)
-    by_test true q later f = absurd (other.0 (cc))
-    by_test false q later f = let w = later f in ((q, w.0), w.1)
+    by_test : (c : Bool) → (unwrap_or (find p xs) x ≡ y → find p xs ≡ None) → unwrap_or (cond c (Some z) (find p xs)) x ≡ y → cond c (Some z) (find p xs) ≡ None
+    by_test true later f = absurd (other.0 f)
+    by_test false later f = later f
 
-epoch_longer : (n : ℕ) (e : Epoch) (B : List Record) → is_epoch_for n e ≡ true → is_epoch_for n (record { first = e.first; records = e.records ++ B }) ≡ true
-epoch_longer n e B h = by_test (nat_le n e.first) h
-  where
-    longer' : nat_lt n (next_number e) ≡ true → nat_lt n (e.first + length (e.records ++ B)) ≡ true
-    longer' q = (Decides-ltb n (e.first + length (e.records ++ B))).1 (omega (arith, (Decides-ltb n (next_number e)).0 q, length-append e.records B))
-
-    by_test : (c : Bool) → (c || nat_lt n (next_number e)) ≡ true → (c || nat_lt n (e.first + length (e.records ++ B))) ≡ true
-    by_test true q = refl
-    by_test false q = longer' q
-
-epoch_still : (n : ℕ) (L B : List Record) → list_any separates B ≡ false → epoch_from n (epochs L) ≡ Some (last_epoch L) → epoch_from n (epochs (L ++ B)) ≡ Some (longer (cut L) B).now
-epoch_still n L B h e =
+-- no epoch that is closed ends behind n
+none_closed : (n : ℕ) (L : List Record) → epoch_from n L ≡ last_epoch L → find (ends_behind n) (cut L).closed ≡ None
+none_closed n L e =
     let others : AllByRecursion (λ z. z ≡ last_epoch L → ⊥) (cut L).closed = all_map (λ z. next_number z < (cut L).now.first) (λ z. z ≡ last_epoch L → ⊥) (λ z lt q. let lt' = subst (λ y. next_number y < (cut L).now.first) q lt in absurd (omega (arith, lt'))) (cut L).closed (before L) in
-    let w = none_before (is_epoch_for n) (cut L).closed (last_epoch L) others e in
-    ap (λ (c : Cut). epoch_from n (c.closed ++ c.now ∷ [])) (cut_within L B h)
-    ∙ found_last (is_epoch_for n) (cut L).closed (longer (cut L) B).now w.0 (epoch_longer n (last_epoch L) B w.1)
+    none_found (ends_behind n) (cut L).closed (cut L).now (last_epoch L) others e
+
+epoch_still : (n : ℕ) (L B : List Record) → list_any separates B ≡ false → epoch_from n L ≡ last_epoch L → epoch_from n (L ++ B) ≡ (longer (cut L) B).now
+epoch_still n L B h e =
+    ap (λ (c : Cut). unwrap_or (find (ends_behind n) c.closed) c.now) (cut_within L B h)
+    ∙ ap (λ o. unwrap_or o (longer (cut L) B).now) (none_closed n L e)
+
+epoch_ended : (n : ℕ) (L : List Record) (rs ds : List ℕ) → n < length L → epoch_from n L ≡ last_epoch L → epoch_from n (L ++ Restarted rs ds ∷ []) ≡ last_epoch L
+epoch_ended n L rs ds lt e =
+    let ends : ends_behind n (last_epoch L) ≡ true = (Decides-ltb n (next_number (last_epoch L))).1 (omega (arith, lt, number_is_length L)) in
+    ap (λ (c : Cut). unwrap_or (find (ends_behind n) c.closed) c.now) (cut_push L (Restarted rs ds))
+    ∙ ap (λ o. unwrap_or o (cut_step (cut L) (Restarted rs ds)).now) (found_last (ends_behind n) (cut L).closed (last_epoch L) (none_closed n L e) ends)
 
 -- ---- the clean place
 clean_step_grows : (p : ℕ) (r : Record) → p ≤ clean_step p r
@@ -264,8 +253,8 @@ fits_longer s base L B F h fit =
 pub fits_more : (s : Sizes) (base : List (List ℕ)) (L B : List Record) (F : Files) → list_any separates B ≡ false → Fits s base L F (last_epoch L) → Fits s base (L ++ B) (with_batch F B) (last_epoch (L ++ B))
 fits_more s base L B F h fit = subst (Fits s base (L ++ B) (with_batch F B)) (sym (ap (λ c. c.now) (cut_within L B h))) (fits_longer s base L B F h fit)
 
-pub fits_restarted : (s : Sizes) (base : List (List ℕ)) (L : List Record) (rs ds : List ℕ) (F : Files) → Fits s base L F (last_epoch L) → Fits s base (L ++ Restarted rs ds ∷ []) (with_batch F (Restarted rs ds ∷ [])) (last_epoch L)
-fits_restarted s base L rs ds F fit =
+pub fits_restarted : (s : Sizes) (base : List (List ℕ)) (L : List Record) (rs ds : List ℕ) (F : Files) → F.first < length L → Fits s base L F (last_epoch L) → Fits s base (L ++ Restarted rs ds ∷ []) (with_batch F (Restarted rs ds ∷ [])) (last_epoch L)
+fits_restarted s base L rs ds F lt fit =
     let B = Restarted rs ds ∷ [] in
     let front : take F.first (L ++ B) ≡ take F.first L = take-append-le F.first L B fit.count in
     record {
@@ -276,7 +265,7 @@ fits_restarted s base L rs ds F fit =
       numbers = fit.numbers ∙ ap next_after (sym front);
       fresh = fit.fresh;
       current = fit.current;
-      epoch = ap (λ (c : Cut). epoch_from F.first (c.closed ++ c.now ∷ [])) (cut_push L (Restarted rs ds)) ∙ found_still (is_epoch_for F.first) ((cut L).closed ++ (cut L).now ∷ []) _ (last_epoch L) fit.epoch;
+      epoch = epoch_ended F.first L rs ds lt fit.epoch;
       recent = inl (sym (recovered_restarted L rs ds));
       certified = fit.certified;
       table_is = fit.table_is;

@@ -2,7 +2,7 @@
 --     Files                    the batches of the log, the number of leading open gates of the anchor, and what the current image holds
 --     with_batch F rs          the files with one batch more
 --     Fits s base L F          a restart from these files comes to the same as one that reads the whole log
-use Rattle.std.specs.Prelude.{◌≡◌, ℕ, ◌+◌, ◌-◌, ◌<◌, ◌≤◌, Bool, true, false, ◌⊎◌, List, [], ◌∷◌, ◌++◌, Option, Some, None, filter, filter_map, map, take, drop, length, sum_by, slice_get, flat_map, if◌then◌else◌, not, ◌||◌, nat_le, nat_lt}
+use Rattle.std.specs.Prelude.{◌≡◌, ℕ, ◌+◌, ◌-◌, ◌<◌, ◌≤◌, Bool, true, false, ◌⊎◌, List, [], ◌∷◌, ◌++◌, Option, Some, None, unwrap_or, filter, filter_map, map, take, drop, length, sum_by, slice_get, flat_map, if◌then◌else◌, not, nat_lt}
 use Rattle.std.specs.List.{find, list_any}
 use Rattle.dali_geometry.specs.Sizes.{Sizes}
 use Rattle.dali_geometry.specs.Places.{regions, formatted_image}
@@ -10,7 +10,7 @@ use Rattle.dali_record.specs.declared.operations.Pending.{Pending}
 use Rattle.dali_record.specs.declared.records.Record.{Record}
 use Rattle.dali_record.specs.declared.records.Record.TheVariants.{Begin, Solo, Restarted}
 use Rattle.dali_record.specs.Log.{undos_of, begun, committed, ended}
-use Rattle.dali_record.specs.Epochs.{Epoch, next_number, epochs, last_epoch, recovered_epoch, clean_place}
+use Rattle.dali_record.specs.Epochs.{Epoch, next_number, cut, last_epoch, recovered_epoch, clean_place}
 use Rattle.dali_record.specs.Damage.{has}
 use Rattle.dali_record.specs.Settled.{words_in, redo_all, settled_before}
 use Rattle.dali_record.specs.Spelling.{record_length}
@@ -68,13 +68,14 @@ draws _ = None
 abbrev pub next_after : List Record → ℕ
 next_after L = length (filter_map draws L) + 1
 
--- whether n lies in the epoch, or the epoch begins at n or later
-abbrev pub is_epoch_for : ℕ → Epoch → Bool
-is_epoch_for n e = nat_le n e.first || nat_lt n (next_number e)
+-- whether the record that ends the epoch has a number above n
+abbrev pub ends_behind : ℕ → Epoch → Bool
+ends_behind n e = nat_lt n (next_number e)
 
--- the epoch in which n lies, or the first that begins at n or later
-abbrev pub epoch_from : ℕ → List Epoch → Option Epoch
-epoch_from n es = find (is_epoch_for n) es
+-- The epoch in which n lies, or the first that begins at n or later; but where a Restarted stands right behind the Format, number 1 is that of the
+-- epoch behind both: so the formatted regions stand before that Restarted, as the image of a restart stands before its own
+abbrev pub epoch_from : ℕ → List Record → Epoch
+epoch_from n L = unwrap_or (find (ends_behind n) (cut L).closed) (cut L).now
 
 pub record Fits (s : Sizes) (base : List (List ℕ)) (L : List Record) (F : Files) (e : Epoch) : Type 0 where
   pub log : flat_map (λ b. b) F.batches ≡ L
@@ -87,7 +88,7 @@ pub record Fits (s : Sizes) (base : List (List ℕ)) (L : List Record) (F : File
   pub fresh : F.gates ≡ 0 → (F.place ≡ 15) × (F.first ≡ 1) × (F.table ≡ []) × (F.image ≡ formatted_image s)
   -- after one
   pub current : 0 < F.gates → F.number ≡ F.gates
-  pub epoch : epoch_from F.first (epochs L) ≡ Some e
+  pub epoch : epoch_from F.first L ≡ e
   pub recent : (e ≡ recovered_epoch L) ⊎ (e ≡ last_epoch L)
   pub certified : F.first ≤ clean_place e
   pub table_is : F.table ≡ table_before e F.first

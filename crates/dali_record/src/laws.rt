@@ -56,11 +56,12 @@ pub fn one_more_record_of_an_epoch()
     ensures restarted { (L : List Record) (rs ds : List ℕ) → recovered_epoch (L ++ Restarted rs ds ∷ []) ≡ last_epoch L }
 {}
 
-/// Files that fit a log still fit it with one more batch at its end.
+/// Files that fit a log still fit it with one more batch at its end. With a Restarted they do at the epoch that it ends, if a record
+/// stood behind their image.
 pub fn one_more_batch()
     ensures going_on { (s : Sizes) (base : List (List ℕ)) (L B : List Record) (F : Files) → list_any separates B ≡ false
         → Fits s base L F (last_epoch L) → Fits s base (L ++ B) (with_batch F B) (last_epoch (L ++ B)) }
-    ensures restarted { (s : Sizes) (base : List (List ℕ)) (L : List Record) (rs ds : List ℕ) (F : Files)
+    ensures restarted { (s : Sizes) (base : List (List ℕ)) (L : List Record) (rs ds : List ℕ) (F : Files) → F.first < length L
         → Fits s base L F (last_epoch L) → Fits s base (L ++ Restarted rs ds ∷ []) (with_batch F (Restarted rs ds ∷ [])) (last_epoch L) }
 {}
 

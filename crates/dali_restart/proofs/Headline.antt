@@ -1,11 +1,10 @@
 -- A restart of what a crash of a run leaves is right, however often it is stopped before.
-use Rattle.std.proofs.Common.{◌≡◌, inl, inr, ◌<◌, ℕ, Bool, true, false, cond, List, [], length, refl, ap, sym, subst, ◌∙◌}
-use Rattle.std.specs.Prelude.{IsSome, nat_lt}
+use Rattle.std.proofs.Common.{◌≡◌, inl, inr, false, List, [], refl, ap, sym, subst, ◌∙◌}
+use Rattle.std.specs.Prelude.{IsSome}
 use Rattle.std.specs.List.{list_any}
-use Rattle.std.proofs.lemmas.Bool.{lt-ltb}
 use Rattle.dali_record.specs.declared.records.Record.{Record}
-use Rattle.dali_record.specs.Damage.{deleted_list, rolled_list}
-use Rattle.dali_record.specs.Epochs.{last_epoch, recovered_epoch}
+use Rattle.dali_record.specs.Damage.{deleted_list}
+use Rattle.dali_record.specs.Epochs.{last_epoch}
 use Rattle.dali_record.specs.Files.{Files}
 use Rattle.dali_record.specs.Legal.{rules_state, sizes_of}
 use Rattle.dali_history.specs.History.{HasExpected}
@@ -27,7 +26,7 @@ use Rattle.dali_resume.proofs.InterruptedLemmas.Found.{crash_is_found}
 use Rattle.dali_resume.proofs.InterruptedLemmas.Places.{start_has_place}
 use Rattle.dali_resume.proofs.InterruptedLemmas.Telling.{not_twice}
 use Rattle.dali_restart.specs.Headline.{AnswersRight, CrashRestartsRight, EachRestart, IsRightAnswer, IsUndamaged, OnWayGoesOn, UnpokedRestartsRight}
-use Rattle.dali_restart.specs.Restarting.{GoesOnFrom, told_by, told_list}
+use Rattle.dali_restart.specs.Restarting.{GoesOnFrom, told_by}
 
 -- ---- restarts that are stopped
 -- a restart logs nothing right behind another
@@ -52,16 +51,6 @@ on_way_goes_on F G H one two = record {
 }
 
 -- ---- one answer
-pub told_lists : (F : Files) (ts : List ℕ) → F.first < length (log_in F) → told_list F ts ≡ ts
-told_lists F ts lt = ap (λ b. cond b ts []) (lt-ltb F.first (length (log_in F)) lt)
-
-none_listed : (F : Files) (ts : List ℕ) → ts ≡ [] → told_list F ts ≡ []
-none_listed F ts none = by_test (nat_lt F.first (length (log_in F)))
-  where
-    by_test : (b : Bool) → cond b ts [] ≡ []
-    by_test true = none
-    by_test false = refl
-
 right_answer : (before : List Record) (c : CoreState) (E : Files) (o : Outcome) → o ≡ told_by E → CrashIsRightWith before c E
     → IsRightAnswer before c E o
 right_answer before c E o told right =
@@ -69,8 +58,8 @@ right_answer before c E o told right =
     record {
       restarts = right.restarts;
       records = subst (λ (u : Outcome). HasExpected L u.image) (sym told) (recovered_is_expected L right.restarts.history);
-      rolled = λ lt. ap (λ (u : Outcome). u.rolled) told ∙ told_lists E (rolled_list (recovered_epoch L)) lt;
-      deleted = λ lt. ap (λ (u : Outcome). u.deleted) told ∙ told_lists E (deleted_list (recovered_epoch L)) lt;
+      rolled = ap (λ (u : Outcome). u.rolled) told;
+      deleted = ap (λ (u : Outcome). u.deleted) told;
     }
 
 -- what says the same as E is answered as E
@@ -110,8 +99,7 @@ undamaged : (before : List Record) (c : CoreState) (E : Files) (o : Outcome) →
 undamaged before c E o told right nobody = record {
   right = right_answer before c E o told right;
   deleted = λ r X e.
-      let same : deleted_list (recovered_epoch (log_in E)) ≡ [] = ap deleted_list (names_the_report (log_in E) r X e) ∙ nobody in
-      ap (λ (u : Outcome). u.deleted) told ∙ none_listed E (deleted_list (recovered_epoch (log_in E))) same;
+      ap (λ (u : Outcome). u.deleted) told ∙ (ap deleted_list (names_the_report (log_in E) r X e) ∙ nobody);
 }
 
 pub unpoked_restarts_right : UnpokedRestartsRight

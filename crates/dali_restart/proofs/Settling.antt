@@ -2,7 +2,7 @@
 use Rattle.std.proofs.Common.{◌≡◌, ℕ, zero, suc, ◌+◌, ◌*◌, ◌-◌, ◌<◌, ◌≤◌, ◌^◌, true, false, cond, List, [], ◌∷◌, ◌++◌, length, drop, Option, Some, None, append_assoc, filter_map, refl, ap, sym, subst, ◌∙◌, ◌⊎◌, inl, inr, ⊎_elim, arith}
 use Rattle.std.specs.Prelude.{◌==◌, nat_le, sum_by}
 use Rattle.std.specs.List.{AllByRecursion}
-use Rattle.std.proofs.lemmas.Bool.{both_ways, lt-leb, lt-ltb, ne_eqb}
+use Rattle.std.proofs.lemmas.Bool.{both_ways, lt-leb, ne_eqb}
 use Rattle.std.proofs.lemmas.List.{append-nil, length-append, length-drop, same_from_push}
 use Rattle.std.proofs.lemmas.List.Concat.{flat_map-append}
 use Rattle.std.proofs.lemmas.List.Elements.{filter_map-append}
@@ -31,6 +31,7 @@ use Rattle.dali_runs.proofs.CountsLemmas.ShortLogs.{batches_framed}
 use Rattle.dali_runs.proofs.CountsLemmas.Tallies.{numbers, numbers_drawn, tallies}
 use Rattle.dali_runs.specs.Run.{log_in}
 use Rattle.dali_crash.specs.Fitting.{FitsWhole}
+use Rattle.dali_crash.specs.Traces.{IsRead}
 use Rattle.dali_crash.specs.Disks.Disks.{AllSpell, Spells, sizes_in}
 use Rattle.dali_crash.proofs.DisksLemmas.Ends.{some_in}
 use Rattle.dali_image.specs.declared.header.Header.{Header}
@@ -40,6 +41,7 @@ use Rattle.dali_resume.specs.Rules.{ends_restarted}
 use Rattle.dali_resume.specs.Interrupted.Found.{FindsIt, IsResting}
 use Rattle.dali_resume.specs.Interrupted.Rests.{EndsLogged, IsToBegin, SaysOf, StandsAlone, StandsTold}
 use Rattle.dali_resume.specs.Interrupted.Stages.{IsAppending, IsLogged, IsMoving, IsRestarting, IsTurned}
+use Rattle.dali_resume.proofs.InterruptedLemmas.Places.{turned_has_place}
 use Rattle.dali_resume.proofs.InterruptedLemmas.Saying.{stages_say}
 use Rattle.dali_resume.proofs.InterruptedLemmas.Stages.{closed_lawful, closing_log, same_sizes, turned_gates}
 use Rattle.dali_resume.proofs.InterruptedLemmas.Telling.{tells_stage}
@@ -57,7 +59,7 @@ use Rattle.dali_restart.specs.Rise.Risen.{IsAtLog}
 use Rattle.dali_restart.specs.declared.rise.rising.Resting.{Resting}
 use Rattle.dali_restart.proofs.RiseLemmas.Behind.{rests_behind}
 use Rattle.dali_restart.specs.Deciding.{IsBase, IsRestingOn, IsSettled, LogsRecord, ReadsAll, Settles, WritesImage, at_end, before, due_by, due_of, resting_of}
-use Rattle.dali_restart.specs.Restarting.{IsAtRest, IsOnWay, IsTold, SpellsOnWay, StopsAlike, told_by, told_list}
+use Rattle.dali_restart.specs.Restarting.{IsAtRest, IsOnWay, IsTold, SpellsOnWay, StopsAlike, told_by}
 use Rattle.dali_restart.specs.declared.restarting.Due.TheVariants as dues
 use Rattle.dali_restart.specs.declared.restarting.Found.{Found}
 use Rattle.dali_restart.proofs.Beginning.{begins}
@@ -80,14 +82,11 @@ framed fs F is = batches_framed F.batches (some_in F.batches is.log.front.sizes)
 says_told : (M : List Record) (G : Files) → SaysOf M G → told_by G ≡ outcome_is M
 says_told M G says = λ i. record { image = says.image i; rolled = rolled i; deleted = deleted i }
   where
-    list : (ts us : List ℕ) → ts ≡ us → told_list G ts ≡ us
-    list ts us same = ap (λ b. cond b ts []) (lt-ltb G.first (length (log_in G)) says.behind) ∙ same
+    rolled : rolled_list (recovered_epoch (log_in G)) ≡ rolled_list (last_epoch M)
+    rolled = ap rolled_list says.epoch
 
-    rolled : told_list G (rolled_list (recovered_epoch (log_in G))) ≡ rolled_list (last_epoch M)
-    rolled = list (rolled_list (recovered_epoch (log_in G))) (rolled_list (last_epoch M)) (ap rolled_list says.epoch)
-
-    deleted : told_list G (deleted_list (recovered_epoch (log_in G))) ≡ deleted_list (last_epoch M)
-    deleted = list (deleted_list (recovered_epoch (log_in G))) (deleted_list (last_epoch M)) (ap deleted_list says.epoch)
+    deleted : deleted_list (recovered_epoch (log_in G)) ≡ deleted_list (last_epoch M)
+    deleted = ap deleted_list says.epoch
 
 way_begun : (F G : Files) → SaysOf (log_in F) F → SaysOf (log_in F) G → IsOnWay F G
 way_begun F G own says = record {
@@ -141,10 +140,10 @@ turned_rests M B n G w t =
     (omega (arith, ap length log, length-append M (closing M ∷ []), turned_first M B n G t))
 
 rests_on :
-    (M : List Record) (B : List (List Record)) (r : Resting) (G : Files) → log_in G ≡ M → G.batches ≡ B → IsResting G
+    (M : List Record) (B : List (List Record)) (r : Resting) (G : Files) → log_in G ≡ M → G.batches ≡ B → IsResting G → IsRead G
     → r.end ≡ sum_by batch_length B → r.current ≡ G.gates
     → IsRestingOn M B r G
-rests_on M B r G log batches rests end gates = record {
+rests_on M B r G log batches rests read end gates = record {
   log = log;
   batches = batches;
   rests = λ v may at number. record {
@@ -153,8 +152,13 @@ rests_on M B r G log batches rests end gates = record {
     files = subst (λ K. FitsWhole (sizes_of K) (base_of (sizes_of K) K) K G (last_epoch K)) log rests.files;
     end = at ∙ (end ∙ ap (sum_by batch_length) (sym batches));
     current = sym (number ∙ gates);
+    read = read;
   };
 }
+
+-- the record of the restart stands behind it
+turned_read : (M : List Record) (B : List (List Record)) (n : ℕ) (G : Files) → IsRestarting M B → IsTurned M B n G → IsRead G
+turned_read M B n G w t = (turned_has_place M B n G w t).read
 
 same_next : (M : List Record) → next_after (closed_log M) ≡ next_after M
 same_next M = ap (λ (l : List ℕ). length l + 1) (filter_map-append draws M (closing M ∷ []) ∙ append-nil (filter_map draws M))
@@ -384,6 +388,7 @@ module _ (fs : Disk) (F : Files) (is : Spells fs F) (finds : FindsIt F) (x : Fou
         rests_on (closed_log L) (F.batches ++ (closing L ∷ []) ∷ []) r q.0 (moving_log L F.batches F.gates q.0 b.restarting (inr q.2))
             (turned_batches L F.batches F.gates q.0 q.2)
             (turned_rests L F.batches F.gates q.0 b.restarting q.2)
+            (turned_read L F.batches F.gates q.0 b.restarting q.2)
             (ap (λ (z : Resting). z.end) rest_is ∙ end_begun)
             (ap (λ (z : Resting). z.current) rest_is ∙ (ap (λ n. n + 1) read.0.current ∙ sym (turned_gates L F.batches F.gates q.0 q.2))),
       );
@@ -470,6 +475,7 @@ module _ (fs : Disk) (F : Files) (is : Spells fs F) (finds : FindsIt F) (x : Fou
         rests_on L F.batches r q.0 (moving_log e.log e.batches F.gates q.0 e.restarting (inr q.2) ∙ sym (ended_log e))
             (turned_batches e.log e.batches F.gates q.0 q.2 ∙ sym batches_are)
             (turned_rests e.log e.batches F.gates q.0 e.restarting q.2)
+            (turned_read e.log e.batches F.gates q.0 e.restarting q.2)
             (ap (λ (z : Resting). z.end) writes ∙ whole.0)
             (ap (λ (z : Resting). z.current) writes ∙ (ap (λ n. n + 1) read.0.current ∙ sym (turned_gates e.log e.batches F.gates q.0 q.2))),
       );
@@ -490,7 +496,7 @@ settles_nothing fs x may due only all F is finds = record {
     subst (λ d. Spells d F) (sym (only c left)) is,
     record { finds = finds; log = inl refl; told = refl; history = λ h. h },
     rests.1,
-    rests_on (log_in F) F.batches (resting_of (at_end x)) F refl refl rests.0 (whole fs F is finds x all).0 read'.current,
+    rests_on (log_in F) F.batches (resting_of (at_end x)) F refl refl rests.0 finds.found.place.read (whole fs F is finds x all).0 read'.current,
   );
 }
   where

@@ -1,6 +1,6 @@
 -- The record of a restart fits a batch: it names transactions that had room to begin.
-use Rattle.std.proofs.Common.{◌≡◌, ℕ, suc, ◌+◌, ◌*◌, ◌<◌, ◌≤◌, ◌^◌, Bool, true, false, cond, List, [], ◌∷◌, ◌++◌, length, Option, Some, None, refl, ap, sym, subst, ◌∙◌, arith}
-use Rattle.std.specs.Prelude.{IsSome, ⊤, ◌==◌, ◌&&◌, filter, nat_lt, not, unwrap_or}
+use Rattle.std.proofs.Common.{◌≡◌, ℕ, suc, ◌+◌, ◌*◌, ◌<◌, ◌≤◌, ◌^◌, List, [], ◌∷◌, ◌++◌, length, Option, Some, None, refl, ap, sym, subst, ◌∙◌, arith}
+use Rattle.std.specs.Prelude.{IsSome, ⊤, ◌==◌, ◌&&◌, filter, not, unwrap_or}
 use Rattle.std.specs.List.{AllByRecursion}
 use Rattle.std.proofs.lemmas.List.{length-append}
 use Rattle.std.proofs.lemmas.List.Elements.{filter_map-append}
@@ -18,7 +18,6 @@ use Rattle.dali_record.proofs.Ends.{by_push}
 use Rattle.dali_record.proofs.Pushes.{cut_push}
 use Rattle.dali_history.proofs.SpelledRestart.{begun_push, few_begun, more_begun, weighs_all}
 use Rattle.dali_runs.specs.Run.{log_in}
-use Rattle.dali_restart.specs.Restarting.{told_list}
 use Rattle.dali_restart.specs.Short.{IsShortRestart}
 
 -- ---- the epochs
@@ -65,21 +64,12 @@ rolled_few e = length_filter (λ t. not (has (committed e.records) t) && not (ha
 deleted_few : (e : Epoch) → length (deleted_list e) ≤ length (begun e.records)
 deleted_few e = length_filter (λ t. has (committed e.records) t && has_corrupt (marks (damage_of e) e.records) t) (begun e.records)
 
-told_few : (F : Files) (ts : List ℕ) → length (told_list F ts) ≤ length ts
-told_few F ts = by_test (nat_lt F.first (length (log_in F)))
-  where
-    by_test : (b : Bool) → length (cond b ts []) ≤ length ts
-    by_test true = omega arith
-    by_test false = omega arith
-
 pub is_short_restart : IsShortRestart
 is_short_restart F finds =
     let L = log_in F in
     let e = recovered_epoch L in
     omega (
       arith,
-      told_few F (rolled_list e),
-      told_few F (deleted_list e),
       rolled_few e,
       deleted_few e,
       recovered_few (length (begun L)) (cut L) (cut L).now.records (are_few L),

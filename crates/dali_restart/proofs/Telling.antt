@@ -1,12 +1,13 @@
 -- What is read of files that are found is what their log says.
-use Rattle.std.proofs.Common.{◌≡◌, ◌⊎◌, inl, inr, ⊎_elim, ℕ, ◌+◌, ◌<◌, ◌≤◌, ◌^◌, cond, List, [], ◌∷◌, ◌++◌, length, drop, take, None, refl, ap, sym, subst, ◌∙◌, arith, append_assoc, length-append, take-append-drop}
+use Rattle.std.proofs.Common.{◌≡◌, ◌⊎◌, inl, inr, ⊎_elim, ℕ, ◌+◌, ◌<◌, ◌≤◌, ◌^◌, List, [], ◌∷◌, ◌++◌, length, drop, take, None, refl, ap, sym, subst, ◌∙◌, arith, append_assoc, length-append, take-append-drop}
 use Rattle.std.specs.Prelude.{sum_by}
-use Rattle.std.proofs.lemmas.Bool.{cases_lt, lt-ltb, le-ltb}
+use Rattle.std.proofs.lemmas.Bool.{cases_lt}
 use Rattle.std.proofs.lemmas.List.{drop-append-le}
 use Rattle.std.proofs.lemmas.List.Concat.{flat_map-append}
 use Rattle.dali_lists.proofs.Members.{all_left}
 use Rattle.dali_geometry.specs.Sizes.{Sizes}
 use Rattle.dali_record.specs.declared.records.Record.{Record}
+use Rattle.dali_record.specs.declared.records.Record.TheVariants.{Format}
 use Rattle.dali_record.specs.Damage.{deleted_list, rolled_list}
 use Rattle.dali_record.specs.Epochs.{last_epoch, recovered_epoch}
 use Rattle.dali_record.specs.Files.{Files, batch_length}
@@ -39,7 +40,7 @@ use Rattle.dali_restart.specs.Renewal.Logged.{restart_length}
 use Rattle.dali_recovery.proofs.ReloadLemmas.Tails.{one_tail}
 use Rattle.dali_recovery.proofs.ReloadLemmas.Whole.{reads_legal}
 use Rattle.dali_restart.specs.Laws.{FoundIsGood}
-use Rattle.dali_restart.specs.Restarting.{BeginsAt, Gives, IsBadAnywhere, IsReadAs, IsTold, told_by, told_list}
+use Rattle.dali_restart.specs.Restarting.{BeginsAt, Gives, IsBadAnywhere, IsReadAs, IsTold, told_by}
 use Rattle.dali_restart.proofs.Beginning.{begins}
 use Rattle.dali_restart.proofs.Exact.{nowhere_bad}
 use Rattle.dali_restart.proofs.Finding.{begun}
@@ -55,6 +56,12 @@ pub record ReadsBehind (F : Files) (B : List (List Record)) : Type 0 where
   pub batches : F.batches ≡ older ++ B
   pub place : F.place ≡ sum_by batch_length older
   pub records : records_of B ≡ drop F.first (log_in F)
+
+-- of a format alone nobody is told
+nobody : (L : List Record) (i h : ℕ) (Q : List Record) → L ≡ Format i h ∷ Q → length L ≤ 1
+    → (rolled_list (recovered_epoch L) ≡ []) × (deleted_list (recovered_epoch L) ≡ [])
+nobody L i h [] same le = (ap (λ M. rolled_list (recovered_epoch M)) same, ap (λ M. deleted_list (recovered_epoch M)) same)
+nobody L i h (x ∷ Q) same le = absurd (omega (arith, le, ap length same))
 
 -- ---- the log is spelled out
 module _ (fs : Disk) (F : Files) (is : Spells fs F) (finds : FindsIt F) where
@@ -113,18 +120,26 @@ module _ (fs : Disk) (F : Files) (is : Spells fs F) (finds : FindsIt F) where
   image_is [] e = rests_free s (log_in F) e
   image_is (r ∷ E) e = refl
 
-  list_is : (ts us : List ℕ) → (F.first < length (log_in F) → ts ≡ us) → (F.first ≡ length (log_in F) → ts ≡ []) → ts ≡ told_list F us
-  list_is ts us read unread = ⊎_elim
-      (λ lt. read lt ∙ sym (ap (λ b. cond b us []) (lt-ltb F.first (length (log_in F)) lt)))
-      (λ le. unread (omega (arith, le, count)) ∙ sym (ap (λ b. cond b us []) (le-ltb F.first (length (log_in F)) le)))
+  -- where no record is read the log is that of a format
+  unread : length (log_in F) ≤ F.first → (rolled_list (recovered_epoch (log_in F)) ≡ []) × (deleted_list (recovered_epoch (log_in F)) ≡ [])
+  unread le = ⊎_elim
+      (λ none. nobody (log_in F) is.log.format.0 is.log.format.1 (records_of is.log.format.2) (ap records_of is.log.format.3) (omega (arith, le, (fits.fits.fresh none).1)))
+      (λ lt. absurd (omega (arith, le, lt)))
+      finds.found.place.read
+
+  list_is : (ts us : List ℕ) → (F.first < length (log_in F) → ts ≡ us) → (F.first ≡ length (log_in F) → ts ≡ [])
+      → (length (log_in F) ≤ F.first → us ≡ []) → ts ≡ us
+  list_is ts us read none same = ⊎_elim
+      (λ lt. read lt)
+      (λ le. none (omega (arith, le, count)) ∙ sym (same le))
       (cases_lt F.first (length (log_in F)))
 
   told_is : (o : Outcome) → IsResumed s (log_in F) F.first o → o ≡ told_by F
   told_is o is_so =
       let L = log_in F in
       let image = is_so.image ∙ image_is (last_epoch L).records refl in
-      let rolled = list_is o.rolled (rolled_list (recovered_epoch L)) is_so.rolled (λ e. (is_so.unread e).0) in
-      let deleted = list_is o.deleted (deleted_list (recovered_epoch L)) is_so.deleted (λ e. (is_so.unread e).1) in
+      let rolled = list_is o.rolled (rolled_list (recovered_epoch L)) is_so.rolled (λ e. (is_so.unread e).0) (λ le. (unread le).0) in
+      let deleted = list_is o.deleted (deleted_list (recovered_epoch L)) is_so.deleted (λ e. (is_so.unread e).1) (λ le. (unread le).1) in
       λ i. record { image = image i; rolled = rolled i; deleted = deleted i }
 
   of_history : (o : Outcome) → o ≡ told_by F → IsTold F o

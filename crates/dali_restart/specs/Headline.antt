@@ -1,7 +1,7 @@
 -- A run with its store, a crash at any moment, restarts that are stopped, and one that ends.
 --     OnWayGoesOn                    what comes of a restart that is stopped, and then of the next one, comes of the first
 --     IsRightAnswer before c E o     the log of the crash image E is a history that keeps what the core c acknowledged, and o is what serial replay of its
---                                    survivors leaves
+--                                    survivors leaves, with just those who were rolled back and deleted in the recovered epoch
 --     AnswersRight before c E o      o is what the log of E says; and where the start was a history and no damage escapes, it is right
 --     EachRestart E P                of each disk that spells E, and of each that restarts left which were stopped, any number of them, a restart gives what
 --                                    has P
@@ -38,9 +38,8 @@ pub record IsRightAnswer (before : List Record) (c : CoreState) (E : Files) (o :
   -- each transaction whose commit was acknowledged is among the survivors, or was deleted since damage reached it
   pub restarts : RestartsRight before c E
   pub records : HasExpected (log_in E) o.image
-  -- where a record stands behind the image, else no list is known
-  pub rolled : E.first < length (log_in E) → o.rolled ≡ rolled_list (recovered_epoch (log_in E))
-  pub deleted : E.first < length (log_in E) → o.deleted ≡ deleted_list (recovered_epoch (log_in E))
+  pub rolled : o.rolled ≡ rolled_list (recovered_epoch (log_in E))
+  pub deleted : o.deleted ≡ deleted_list (recovered_epoch (log_in E))
 
 pub record AnswersRight (before : List Record) (c : CoreState) (E : Files) (o : Outcome) : Type 0 where
   pub told : o ≡ told_by E

@@ -8,18 +8,21 @@
 --     FoundIsGood              a disk that spells files that are found is nowhere bad, and isn't unformatted; it is read as what their log says, and the
 --                              record of the restart fits a batch
 --     FitsLawful F             the log of these files is lawful, their image fits it at its last epoch and stands behind a record, and hardly more
---                              checkpoints were made than records stand before it, none of a log of the format alone
+--                              checkpoints were made than records stand before it. A record stands behind it, where a gate is open
 --     FitIsFound               such files are found, also those that were put together by hand
+--     ClosedFormatIsFound      so are those whose log has a Format and a Restarted alone, of which no checkpoint was made
 --     OneAnswer                a disk has one answer: its log has no batches, or it is bad at one place of one file, or this is found
-use Rattle.std.specs.Prelude.{◌≡◌, ◌⊎◌, ◌<◌, ◌≤◌, ◌+◌, ◌^◌, ℕ, List, length}
+use Rattle.std.specs.Prelude.{◌≡◌, ◌<◌, ◌≤◌, ◌+◌, ◌^◌, ℕ, List, [], ◌∷◌}
 use Rattle.dali_geometry.specs.Sizes.{Sizes}
 use Rattle.dali_att.specs.Table.{Table}
 use Rattle.dali_record.specs.declared.operations.Pending.{Pending}
 use Rattle.dali_record.specs.declared.records.Record.{Record}
+use Rattle.dali_record.specs.declared.records.Record.TheVariants.{Format, Restarted}
 use Rattle.dali_record.specs.Blocks.{AllAreWords}
 use Rattle.dali_record.specs.Epochs.{last_epoch}
-use Rattle.dali_record.specs.Files.{Files}
+use Rattle.dali_record.specs.Files.{Files, with_batch}
 use Rattle.dali_record.specs.Legal.{sizes_of}
+use Rattle.dali_record.specs.Spelling.{CanBeSpelled}
 use Rattle.dali_history.specs.Recovered.{base_of}
 use Rattle.dali_store.specs.declared.store.FileName.{FileName}
 use Rattle.dali_store.specs.Store.{Files as Disk}
@@ -28,7 +31,8 @@ use Rattle.dali_log.specs.Log.{LogOf}
 use Rattle.dali_log.specs.Stream.{Reading}
 use Rattle.dali_runs.specs.Run.{log_in}
 use Rattle.dali_crash.specs.Fitting.{FitsWhole}
-use Rattle.dali_crash.specs.Starts.{IsLawful}
+use Rattle.dali_crash.specs.Starts.{IsFormatted, IsLawful}
+use Rattle.dali_crash.specs.Traces.{IsRead}
 use Rattle.dali_crash.specs.Disks.Disks.{Spells, head_of}
 use Rattle.dali_image.specs.Laws.{header_of, table_of}
 use Rattle.dali_image.specs.declared.header.Header.{Header}
@@ -105,7 +109,11 @@ pub record FitsLawful (F : Files) : Type 0 where
   pub fits : FitsWhole (sizes_of (log_in F)) (base_of (sizes_of (log_in F)) (log_in F)) (log_in F) F (last_epoch (log_in F))
   pub behind : 0 < F.first
   pub moved : F.gates ≤ F.first + 2 ^ 61
-  pub some : (F.gates ≡ 0) ⊎ (1 < length (log_in F))
+  pub read : IsRead F
 
 abbrev pub FitIsFound : Type 0
 FitIsFound = (F : Files) → FitsLawful F → FindsIt F
+
+-- those of a format, with a Restarted behind it
+abbrev pub ClosedFormatIsFound : Type 0
+ClosedFormatIsFound = (s : Sizes) (F : Files) → CanBeSpelled (Format s.index s.heap) → IsFormatted s F → FindsIt (with_batch F (Restarted [] [] ∷ []))

@@ -3,7 +3,7 @@
 --     BeginsAt fs s F          the disk has these files, of the sizes s, before the first record behind its current image, which is theirs
 --     IsReadAs fs o            the log from that image's place on is one of batches to its end, and this is their answer (verdict_over)
 --     IsBadTail, IsBadAnywhere     the disk is bad at this place: in the log from the image's place on; or before that
---     told_by F                what the log of the files F says: the recovered words, and the lists of the recovered epoch, if a record stands behind the image
+--     told_by F                what the log of the files F says: the recovered words, and the lists of the recovered epoch
 --     Gives fs o               so the answer is, where the disk spells files that are found (FindsIt); and of a history the words have the survivors' records
 --     IsOnWay F G              the files G come of the restart of F: their log is that of F, or has one record more, that of the restart; they say the same
 --     SpellsOnWay F c          the disk c spells such files
@@ -13,17 +13,14 @@
 --     IsLeft old new           what a crash at any moment leaves, and what else is so whatever is answered
 --     IsFresh                  a core that was just made: no operation, transaction or lock, and a vault that runs
 --     BeginsRun                a run begins with it, over the log of these files or that with the record of the restart
-use Rattle.std.specs.Prelude.{◌≡◌, ◌⊎◌, ◌≤◌, ◌<◌, ℕ, Bool, List, [], ◌∷◌, Option, Some, IfSome, is_some, if◌then◌else◌, nat_lt, drop, length, map}
+use Rattle.std.specs.Prelude.{◌≡◌, ◌⊎◌, ◌≤◌, ◌<◌, ℕ, List, [], ◌∷◌, Option, Some, IfSome, is_some, drop, length, map}
 use Rattle.dali_geometry.specs.Sizes.{Sizes}
 use Rattle.dali_record.specs.declared.records.Record.{Record}
 use Rattle.dali_record.specs.declared.records.Record.TheVariants.{Restarted}
 use Rattle.dali_record.specs.Blocks.{AllAreWords}
-use Rattle.dali_record.specs.Damage.{rolled_list, deleted_list}
-use Rattle.dali_record.specs.Epochs.{recovered_epoch}
 use Rattle.dali_record.specs.Files.{Files}
 use Rattle.dali_record.specs.Legal.{Rules, rules_state, sizes_of}
 use Rattle.dali_history.specs.History.{HasExpected, IsHistory}
-use Rattle.dali_history.specs.Recovered.{recovered}
 use Rattle.dali_region.specs.declared.Side.{Side}
 use Rattle.dali_region.specs.State.{RegionState}
 use Rattle.dali_store.specs.declared.store.FileName.{FileName}
@@ -46,7 +43,7 @@ use Rattle.dali_core.specs.Cores.{IsCoreAt}
 use Rattle.dali_image.specs.Laws.{CanBeTable, header_of, table_of}
 use Rattle.dali_resume.specs.Again.{Outcome, closed_log}
 use Rattle.dali_resume.specs.Batches.{verdict_over}
-use Rattle.dali_resume.specs.Onward.{HandedOut}
+use Rattle.dali_resume.specs.Onward.{HandedOut, history_says}
 use Rattle.dali_resume.specs.Interrupted.Found.{FindsIt}
 use Rattle.dali_recovery.specs.Reload.Reading.{FailsAt, IsBadBehind}
 use Rattle.dali_restart.specs.declared.rise.rising.Resting.{Resting}
@@ -85,16 +82,8 @@ abbrev pub IsBadAnywhere : Disk → FileName → ℕ → Type 0
 IsBadAnywhere fs file at = IsBadStore fs file at ⊎ IsBadTail fs file at
 
 -- ---- files that are found
--- where no record is read, no lists are known
-abbrev pub told_list : Files → List ℕ → List ℕ
-told_list F ts = if nat_lt F.first (length (log_in F)) then ts else []
-
 abbrev pub told_by : Files → Outcome
-told_by F = let L = log_in F in record {
-  image = recovered (sizes_of L) L;
-  rolled = told_list F (rolled_list (recovered_epoch L));
-  deleted = told_list F (deleted_list (recovered_epoch L));
-}
+told_by F = history_says (log_in F)
 
 pub record IsTold (F : Files) (o : Outcome) : Type 0 where
   pub told : o ≡ told_by F

@@ -1,6 +1,6 @@
 //! Laws of what `open` finds and what `restart` reads, each the contract of a function that does nothing.
 ghost use Rattle.dali_restart.specs.Headline.{CrashRestartsRight, OnWayGoesOn, UnpokedRestartsRight};
-ghost use Rattle.dali_restart.specs.Laws.{WhatOpensIsSpelled, OneAnswer, OpensOnce, ReadsOnce, IsBadOnce, FoundIsGood, FitIsFound};
+ghost use Rattle.dali_restart.specs.Laws.{WhatOpensIsSpelled, OneAnswer, OpensOnce, ReadsOnce, IsBadOnce, FoundIsGood, FitIsFound, ClosedFormatIsFound};
 
 /// Where the log is one from its first batch to its end, the disk spells files with just what was found: the sizes, the
 /// current image with its number and its table. So it is of every files that a disk spells, which are one.
@@ -36,9 +36,17 @@ pub fn what_is_found_is_nowhere_bad()
 
 /// Files whose log is lawful and whose image fits it at its last epoch are found, also where no run left them: so what `restart`
 /// says of files that are found it says of each store that spells such. The image is to stand behind a record, and hardly more
-/// checkpoints to have been made than records stand before it, none of a log of the format alone.
+/// checkpoints to have been made than records stand before it. Where a gate of the anchor is open a record is to stand behind the
+/// image: from one behind the last Restarted no restart knows whom that one named, and it names nobody
+/// (`dali_resume::laws::a_restart_names_nobody_behind_the_end`).
 pub fn files_that_fit_are_found()
     ensures { FitIsFound }
+{}
+
+/// Files whose log has a Format and right behind it a Restarted are found, where no checkpoint was made: the formatted regions are
+/// the image. So a restart of them and whatever runs behind it is promised what all are.
+pub fn a_log_of_a_format_and_a_restart_is_found()
+    ensures { ClosedFormatIsFound }
 {}
 
 /// A run with its store may crash anywhere, also within a step, and the restart behind it may be stopped, any number of times.
@@ -46,8 +54,7 @@ pub fn files_that_fit_are_found()
 /// history and no damage escapes, that log is a history, and the records are exactly those that serial replay of its survivors
 /// leaves. Each transaction whose commit was acknowledged survives then, or was deleted since a chain led from damage to it. The
 /// run's start has no checkpoint's image, or a record behind the format in its log. Without a stray write nobody of the last epoch
-/// is deleted. The lists of the report are those of the recovered epoch where a record stands behind the image, and else they are
-/// empty.
+/// is deleted. The lists of the report are those of the recovered epoch.
 pub fn a_crash_of_a_run_restarts_right()
     ensures right { CrashRestartsRight }
     ensures again { OnWayGoesOn }

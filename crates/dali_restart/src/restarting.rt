@@ -32,7 +32,7 @@ use dali_store::Store;
 use std::alloc::Global;
 
 /// What a restart did to the transactions that its log's last epoch leaves, or what the last restart did, where no record stands
-/// behind its own. Both lists are empty where no record stands behind the image.
+/// behind its own.
 #[derive(Drop)]
 pub struct Report {
     /// Those that had neither committed nor ended, ascending.
@@ -357,10 +357,9 @@ fn settle<V: Store>(alloc: Global, store: &mut V, found: &Found) -> Result<Resti
 ///
 /// Of files that a crash of a run left in which no audit missed a stray write, or another restart at any of its calls, it hands
 /// out what their log says. Where that is a history the records are exactly those of the surviving transactions, replayed one
-/// after another in commit order. Where a record stands behind the image it names exactly the rolled back and the deleted, and
-/// else nobody (`gives`). A stop at any moment of it leaves files of which a restart hands out the same, or what a crash might
-/// have left before it. The store that comes back, with an error or in the core, reads as files of which a restart hands out the
-/// same (`any_moment`).
+/// after another in commit order. It names exactly the rolled back and the deleted of the last epoch that has a record (`gives`).
+/// A stop at any moment of it leaves files of which a restart hands out the same, or what a crash might have left before it. The
+/// store that comes back, with an error or in the core, reads as files of which a restart hands out the same (`any_moment`).
 ///
 /// `Unformatted` exactly where the log has fewer than two bytes or its first gate is closed; such files are only read, whatever is
 /// answered (`none`). `BadStore` exactly where the files are bad: in the log's first batch, else in the anchor, else in the

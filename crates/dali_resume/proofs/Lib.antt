@@ -29,4 +29,6 @@ pub mod Numbers
 pub mod Freed
 pub mod OnTheWay
 pub mod Worked
+pub mod Formats
+pub mod BehindTheEnd
 pub mod InterruptedLemmas

@@ -9,7 +9,7 @@ use Rattle.std.proofs.lemmas.List.Sums.{fold-append}
 use Rattle.std.proofs.lemmas.Option.{slice_get_past}
 use Rattle.dali_lists.proofs.Options.{some_of}
 use Rattle.dali_geometry.specs.Sizes.{Sizes}
-use Rattle.dali_record.specs.Epochs.{Cut, Epoch, epochs, last_epoch, next_number, separates}
+use Rattle.dali_record.specs.Epochs.{Cut, Epoch, last_epoch, next_number, separates}
 use Rattle.dali_record.specs.Files.{Files, table_before}
 use Rattle.dali_record.specs.Legal.{IsLegalFor, rules_state}
 use Rattle.dali_record.specs.Log.{last_of}
@@ -25,7 +25,7 @@ use Rattle.dali_history.specs.Recovered.{base_of}
 use Rattle.dali_history.proofs.Prefixes.{IsLegalFor-front}
 use Rattle.dali_runs.proofs.LastEpochs.{last_epoch-append}
 use Rattle.dali_crash.specs.Fitting.{FitsWhole}
-use Rattle.dali_crash.proofs.Fitting.{found_is, within_epoch}
+use Rattle.dali_crash.proofs.Fitting.{within_epoch}
 use Rattle.dali_resume.specs.Again.{Outcome}
 use Rattle.dali_resume.specs.Laws.{is_audit_fail}
 use Rattle.dali_resume.specs.Onward.{HandedOut, Misfit, goes_through, hands_on, verdict_by, verdict_of}
@@ -258,7 +258,7 @@ module _ (s : Sizes) (K : List Record) (F : Files) (fit : FitsWhole s (base_of s
       whole = sym (take-append-drop e.first K) ∙ ap (λ X. take e.first K ++ X) here.0.there
 
       inside : F.first - (last_epoch K).first ≤ length (last_epoch K).records
-      inside = within_epoch F.first e (found_is F.first (epochs K) e fit.fits.epoch)
+      inside = within_epoch F.first K e fit.fits.count fit.fits.epoch
 
       front_size : length (take (last_epoch K).first K) ≡ (last_epoch K).first
       front_size = length-take-le e.first K here.0.low

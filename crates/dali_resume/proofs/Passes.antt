@@ -12,7 +12,7 @@ use Rattle.dali_geometry.specs.Sizes.{Sizes}
 use Rattle.dali_record.specs.declared.records.Record.{Record}
 use Rattle.dali_record.specs.declared.records.Record.TheVariants.{Format, Begin, Forward, Done, Commit, Ended, Solo, AuditBegin, AuditClean, AuditFail, Restarted, Back}
 use Rattle.dali_record.specs.Log.{undos_of, committed, ended}
-use Rattle.dali_record.specs.Epochs.{Epoch, epochs, separates, last_epoch, recovered_epoch, cut, cut_step}
+use Rattle.dali_record.specs.Epochs.{Epoch, separates, last_epoch, recovered_epoch, cut, cut_step}
 use Rattle.dali_record.specs.Damage.{has, rolled_list, deleted_list}
 use Rattle.dali_record.specs.Legal.{TxnState, Unbegun, Active, Committed, Over, txn_next, Rules, rules_start, restarts, kept_if, rules_first, rules_behind, rules_step, rules_next, rules_state, IsLegalFor}
 use Rattle.dali_record.specs.Files.{Files, row_of, table_before, next_after, draws}
@@ -28,7 +28,7 @@ use Rattle.dali_history.proofs.Prefixes.{IsLegalFor-front}
 use Rattle.dali_runs.proofs.CountsLemmas.Tallies.{tallies, numbers_drawn}
 use Rattle.dali_runs.proofs.CountsLemmas.SmallLogs.{next_is_small}
 use Rattle.dali_crash.specs.Fitting.{FitsWhole}
-use Rattle.dali_crash.proofs.Fitting.{found_is, within_epoch}
+use Rattle.dali_crash.proofs.Fitting.{within_epoch}
 use Rattle.dali_resume.specs.Resumed.{records_from, damage_from, scan, rolled_by, deleted_by}
 use Rattle.dali_resume.specs.Tests.{Idle, Running, Waiting, Known, known_at, status_in, status_next, tells_lists, may_follow, known_next, test_next, tests}
 use Rattle.dali_resume.specs.Laws.{MayResume, PassesTests}
@@ -135,7 +135,7 @@ module _ (s : Sizes) (base : List (List ℕ)) (L : List Record) (F : Files) (e :
   C = here.0.behind
 
   inside : F.first - e.first ≤ length e.records
-  inside = within_epoch F.first e (found_is F.first (epochs L) e fit.fits.epoch)
+  inside = within_epoch F.first L e fit.fits.count fit.fits.epoch
 
   split : take (F.first - e.first) e.records ++ drop (F.first - e.first) e.records ≡ e.records
   split = take-append-drop (F.first - e.first) e.records

@@ -9,7 +9,7 @@ use Rattle.std.proofs.lemmas.List.Folds.{fold_stays}
 use Rattle.dali_lists.proofs.Options.{some_of}
 use Rattle.dali_geometry.specs.Sizes.{Sizes}
 use Rattle.dali_record.specs.Damage.{deleted_list, rolled_list}
-use Rattle.dali_record.specs.Epochs.{Epoch, cut, epochs, last_epoch, recovered_epoch, recovered_or, separates}
+use Rattle.dali_record.specs.Epochs.{Epoch, cut, last_epoch, recovered_epoch, recovered_or, separates}
 use Rattle.dali_record.specs.Files.{Files, is_restarted, next_after, table_before}
 use Rattle.dali_record.specs.Legal.{IsLegalFor, Rules, has_room, on_kind, passes, rules_state}
 use Rattle.dali_record.specs.Settled.{redo_all}
@@ -23,7 +23,7 @@ use Rattle.dali_history.specs.Recovered.{base_of, recover}
 use Rattle.dali_history.proofs.Prefixes.{IsLegalFor-front}
 use Rattle.dali_runs.proofs.CountsLemmas.Tallies.{numbers_drawn, tallies}
 use Rattle.dali_crash.specs.Fitting.{FitsWhole}
-use Rattle.dali_crash.proofs.Fitting.{found_is, redoes_the_epoch, within_epoch}
+use Rattle.dali_crash.proofs.Fitting.{redoes_the_epoch, within_epoch}
 use Rattle.dali_crash.proofs.FromImage.{recovers_from_image, redone_from_image}
 use Rattle.dali_resume.specs.Laws.{MayResume}
 use Rattle.dali_resume.specs.Onward.{Going, KnowsAlike, closed_image, deleted_behind, goes_through, going_at, going_next, rolled_behind}
@@ -182,7 +182,7 @@ module _ (s : Sizes) (K : List Record) (F : Files) (fit : FitsWhole s (base_of s
   there = here.0.there ∙ (ap (λ X. e.records ++ X) nothing_behind ∙ append-nil e.records)
 
   inside : F.first - (last_epoch K).first ≤ length (last_epoch K).records
-  inside = within_epoch F.first e (found_is F.first (epochs K) e fit.fits.epoch)
+  inside = within_epoch F.first K e fit.fits.count fit.fits.epoch
 
   may : MayResume s K (last_epoch K) F.first
   may = may_resume s (base_of s K) K F e fit legal spelled

@@ -1,25 +1,24 @@
 -- The records that a restart reads behind an image are those of its epoch.
 use Rattle.std.proofs.Common.{◌≡◌, ℕ, zero, suc, ◌+◌, ◌-◌, ◌<◌, ◌≤◌, Bool, true, false, cond, List, [], ◌∷◌, ◌++◌, length, drop, Option, Some, None, refl, ap, sym, subst, ◌∙◌, ◌⊎◌, inl, inr, ⊎_elim, append_assoc, arith}
-use Rattle.std.specs.Prelude.{◌||◌, max, nat_le, nat_lt, IsSome, slice_get, unwrap_or}
+use Rattle.std.specs.Prelude.{Contains, max, IsSome, slice_get, unwrap_or}
 use Rattle.std.specs.List.{AllByRecursion, find}
 use Rattle.std.proofs.lemmas.List.{append-nil, drop-append-le, length-append, length-drop}
 use Rattle.std.proofs.lemmas.Bool.{cases_lt, ltb-false}
-use Rattle.std.proofs.lemmas.Option.{same_Some}
 use Rattle.dali_lists.proofs.Lists.{push-not_nil, get_push}
-use Rattle.dali_lists.proofs.Members.{all_weaker, all_push}
+use Rattle.dali_lists.proofs.Members.{all_weaker, all_push, contains_first, contains_more}
 use Rattle.dali_geometry.specs.Sizes.{Sizes}
 use Rattle.dali_record.specs.declared.records.Record.{Record}
 use Rattle.dali_record.specs.declared.records.Record.TheVariants.{Format, Begin, Forward, Done, Commit, Ended, Solo, AuditBegin, AuditClean, AuditFail, Restarted, Back}
 use Rattle.dali_record.specs.Epochs.{Epoch, Cut, cut, cut_step, epochs, separates, next_number}
 use Rattle.dali_record.specs.Epochs.{last_epoch, recovered_epoch, recovered_or}
 use Rattle.dali_record.specs.Log.{last_of}
-use Rattle.dali_record.specs.Files.{is_epoch_for, epoch_from}
+use Rattle.dali_record.specs.Files.{ends_behind, epoch_from}
 use Rattle.dali_record.specs.Legal.{Rules, rules_state}
 use Rattle.dali_record.proofs.Ends.{by_push, get_old}
 use Rattle.dali_record.proofs.Pushes.{cut_push}
 use Rattle.dali_record.proofs.Stages.{IsWithin}
 use Rattle.dali_record.proofs.EpochRules.{format_first, rules_before, within_push}
-use Rattle.dali_crash.proofs.Fitting.{found_is, within_epoch}
+use Rattle.dali_crash.proofs.Fitting.{within_epoch}
 use Rattle.dali_resume.specs.Resumed.{first_from, records_from}
 use Rattle.dali_resume.specs.Reading.{up_to_next, part_from, number_from}
 use Rattle.dali_resume.specs.Laws.{ReadsEpoch}
@@ -215,16 +214,9 @@ state_of s L some = by_state (rules_state s L) refl some
 
 -- ---- the epoch that is found
 
-none_epoch : {A : Type 0} (b : Epoch) → None ≡ Some b → A
-none_epoch b e = absurd (cc)
-
-found_low : (n : ℕ) (es : List Epoch) (now e : Epoch) → AreLinked es now → head_first es now ≤ n + 1 → find (is_epoch_for n) (es ++ now ∷ []) ≡ Some e → e.first ≤ n + 1
-found_low n [] now e w h f = by_test (is_epoch_for n now) f
-  where
-    by_test : (b : Bool) → cond b (Some now) None ≡ Some e → e.first ≤ n + 1
-    by_test true g = omega (arith, h, ap (λ (z : Epoch). z.first) (same_Some now e g))
-    by_test false g = none_epoch e g
-found_low n (d ∷ es) now e w h f = by_test (is_epoch_for n d) refl f (λ low. found_low n es now e (tail es w) low)
+found_low : (n : ℕ) (es : List Epoch) (now : Epoch) → AreLinked es now → head_first es now ≤ n + 1 → (unwrap_or (find (ends_behind n) es) now).first ≤ n + 1
+found_low n [] now w h = h
+found_low n (d ∷ es) now w h = by_test (ends_behind n d) refl (λ low. found_low n es now (tail es w) low)
   where
     tail : (ds : List Epoch) → AreLinked (d ∷ ds) now → AreLinked ds now
     tail [] k = tt
@@ -234,30 +226,41 @@ found_low n (d ∷ es) now e w h f = by_test (is_epoch_for n d) refl f (λ low. 
     next [] k = k
     next (x ∷ ds) k = k.0
 
-    past : (a b : Bool) → nat_le n d.first ≡ a → nat_lt n (next_number d) ≡ b → (a || b) ≡ false → next_number d ≤ n
-    past true b p q k = absurd (cc)
-    past false true p q k = absurd (cc)
-    past false false p q k = omega (arith, ltb-false n (next_number d) q)
+    by_test : (b : Bool) → ends_behind n d ≡ b → (head_first es now ≤ n + 1 → (unwrap_or (find (ends_behind n) es) now).first ≤ n + 1) → (unwrap_or (cond b (Some d) (find (ends_behind n) es)) now).first ≤ n + 1
+    by_test true k later = h
+    by_test false k later = later (omega (arith, next es w, ltb-false n (next_number d) k))
 
-    by_test : (b : Bool) → is_epoch_for n d ≡ b → cond b (Some d) (find (is_epoch_for n) (es ++ now ∷ [])) ≡ Some e → (head_first es now ≤ n + 1 → find (is_epoch_for n) (es ++ now ∷ []) ≡ Some e → e.first ≤ n + 1) → e.first ≤ n + 1
-    by_test true k g later = omega (arith, h, ap (λ (z : Epoch). z.first) (same_Some d e g))
-    by_test false k g later = later (omega (arith, next es w, past (nat_le n d.first) (nat_lt n (next_number d)) refl refl k)) g
-
-found_all : {X : Type 0} (Q : X → Type 0) (p : X → Bool) (xs : List X) (x : X) → AllByRecursion Q xs → find p xs ≡ Some x → Q x
-found_all Q p [] x h f = absurd (cc)
-found_all {X = X} Q p (y ∷ xs) x h f = by_test (p y) f (λ g. found_all Q p xs x h.1 g)
+-- what is so of each epoch is so of the one that is found
+found_all : (Q : Epoch → Type 0) (n : ℕ) (es : List Epoch) (now : Epoch) → AllByRecursion Q es → Q now → Q (unwrap_or (find (ends_behind n) es) now)
+found_all Q n [] now all last = last
+found_all Q n (d ∷ es) now all last = by_test (ends_behind n d) (found_all Q n es now all.1 last)
   where
-    by_test : (b : Bool) → cond b (Some y) (find p xs) ≡ Some x → (find p xs ≡ Some x → Q x) → Q x
-    by_test true g later = let same : y ≡ x = cc in subst Q same h.0
-    by_test false g later = later g
+    by_test : (b : Bool) → Q (unwrap_or (find (ends_behind n) es) now) → Q (unwrap_or (cond b (Some d) (find (ends_behind n) es)) now)
+    by_test true later = all.0
+    by_test false later = later
 
-pub found_at : {X : Type 0} (p : X → Bool) (xs : List X) (x : X) → find p xs ≡ Some x → (i : ℕ) × (slice_get xs i ≡ Some x)
-found_at p [] x f = absurd (cc)
-found_at p (y ∷ xs) x f = by_test (p y) f (λ g. found_at p xs x g)
+pub found_in : (n : ℕ) (L : List Record) (e : Epoch) → epoch_from n L ≡ e → Contains (epochs L) e
+found_in n L e is = subst (Contains (epochs L)) is (in_either (cut L).closed (cut L).now)
   where
-    by_test : (b : Bool) → cond b (Some y) (find p xs) ≡ Some x → (find p xs ≡ Some x → (i : ℕ) × (slice_get xs i ≡ Some x)) → (i : ℕ) × (slice_get (y ∷ xs) i ≡ Some x)
-    by_test true g later = (0, g)
-    by_test false g later = let w = later g in (suc w.0, w.1)
+    in_either : (es : List Epoch) (now : Epoch) → Contains (es ++ now ∷ []) (unwrap_or (find (ends_behind n) es) now)
+    in_either [] now = contains_first now []
+    in_either (d ∷ es) now = by_test (ends_behind n d) (in_either es now)
+      where
+        by_test : (b : Bool) → Contains (es ++ now ∷ []) (unwrap_or (find (ends_behind n) es) now)
+            → Contains (d ∷ (es ++ now ∷ [])) (unwrap_or (cond b (Some d) (find (ends_behind n) es)) now)
+        by_test true later = contains_first d (es ++ now ∷ [])
+        by_test false later = contains_more d _ (es ++ now ∷ []) later
+
+-- where the epoch of a number stands
+pub placed : (s : Sizes) (L : List Record) (e : Epoch) (n : ℕ) → IsSome (rules_state s L) → epoch_from n L ≡ e → Placed L e × (e.first ≤ n + 1)
+unfolding IsClosed
+placed s L e n rules found = (
+  subst (Placed L) found (found_all (Placed L) n (cut L).closed (cut L).now (all_weaker (IsClosed L) (Placed L) (cut L).closed (λ x w. w.0) st.closed) st.now),
+  subst (λ (x : Epoch). x.first ≤ n + 1) found (found_low n (cut L).closed (cut L).now st.linked (omega (arith, st.head))),
+)
+  where
+    st : State L (cut L)
+    st = state_of s L rules
 
 -- ---- what is read
 up_to_end : (D Z : List Record) → IsWithin D → IsEnd Z → up_to_next (D ++ Z) ≡ D
@@ -301,19 +304,16 @@ near s L e rules recent = ⊎_elim (by_records (cut L).now.records refl) at_last
 
 pub reads_epoch : ReadsEpoch
 unfolding IsClosed
-reads_epoch s L e n legal found recent = ⊎_elim before behind (cases_lt n e.first)
+reads_epoch s L e n legal inside found recent = ⊎_elim before behind (cases_lt n e.first)
   where
-    st : State L (cut L)
-    st = state_of s L legal.rules
-
     p : Placed L e
-    p = found_all (Placed L) (is_epoch_for n) (epochs L) e (all_push (Placed L) (cut L).closed (cut L).now (all_weaker (IsClosed L) (Placed L) (cut L).closed (λ x w. w.0) st.closed) st.now) found
+    p = (placed s L e n legal.rules found).0
 
     low : e.first ≤ n + 1
-    low = found_low n (cut L).closed (cut L).now e st.linked (omega (arith, st.head)) found
+    low = (placed s L e n legal.rules found).1
 
     within : n - e.first ≤ length e.records
-    within = within_epoch n e (found_is n (epochs L) e found)
+    within = within_epoch n L e inside found
 
     before : n < e.first → (part_from (drop n L) ≡ records_from n e) × ((number_from n (drop n L) ≡ first_from n e) ⊎ (part_from (drop n L) ≡ []))
     before lt =
@@ -347,14 +347,3 @@ reads_epoch s L e n legal found recent = ⊎_elim before behind (cases_lt n e.fi
             by_end [] k = rw (read, g, k) (refl, inl (sym number))
             by_end (z ∷ []) k = let sep : separates z ≡ true = subst IsEnd k p.end in rw (read, g, k, sep) (refl, inr refl)
             by_end (z ∷ y ∷ Z) k = absurd (omega (arith, near s L e legal.rules recent, p.low, length-drop e.first L, ap length p.there, length-append e.records p.behind, ap length k))
-
--- where the epoch of a number stands
-pub placed : (s : Sizes) (L : List Record) (e : Epoch) (n : ℕ) → IsSome (rules_state s L) → epoch_from n (epochs L) ≡ Some e → Placed L e × (e.first ≤ n + 1)
-unfolding IsClosed
-placed s L e n rules found = (
-  found_all (Placed L) (is_epoch_for n) (epochs L) e (all_push (Placed L) (cut L).closed (cut L).now (all_weaker (IsClosed L) (Placed L) (cut L).closed (λ x w. w.0) st.closed) st.now) found,
-  found_low n (cut L).closed (cut L).now e st.linked (omega (arith, st.head)) found,
-)
-  where
-    st : State L (cut L)
-    st = state_of s L rules

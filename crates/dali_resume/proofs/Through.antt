@@ -2,10 +2,12 @@
 use Rattle.dali_record.specs.Settled.{redo_all}
 use Rattle.std.specs.List.{list_any}
 use Rattle.std.specs.Prelude.{IsNone, IsSome, fold, not, sum_by, ◌&&◌, ◌||◌, ◌==◌}
-use Rattle.std.proofs.Common.{Bool, List, None, Option, Some, ap, append_assoc, arith, cond, drop, false, length, refl, subst, sym, take, true, ℕ, ◌+◌, ◌≡◌, ◌∷◌, ◌++◌, ◌∙◌, ◌<◌, []}
-use Rattle.std.proofs.lemmas.Bool.{and_parts, both_ways, false_from_ne_true, eqb-true, or_parts}
+use Rattle.std.proofs.Common.{Bool, List, None, Option, Some, ap, append_assoc, arith, cond, drop, false, length, refl, subst, sym, take, true, ⊎_elim, ℕ, ◌+◌, ◌≡◌, ◌∷◌, ◌++◌, ◌∙◌, ◌<◌, []}
+use Rattle.std.proofs.lemmas.Bool.{and_parts, both_ways, cases_lt, false_from_ne_true, eqb-true, or_parts}
 use Rattle.std.proofs.lemmas.List.{append-nil, drop-append-le, length-append, take-append-drop, take-append-le}
 use Rattle.std.proofs.lemmas.List.Sums.{fold-append, sum_by-append}
+use Rattle.dali_lists.proofs.Lists.{drop_front}
+use Rattle.dali_lists.proofs.Numbers.{eqb-self}
 use Rattle.dali_lists.proofs.Options.{some_of}
 use Rattle.dali_geometry.specs.Places.{formatted_image}
 use Rattle.dali_geometry.specs.Sizes.{Sizes}
@@ -194,11 +196,20 @@ module _ (s : Sizes) (some_index : 0 < s.index) (some_heap : 0 < s.heap) (K : Li
     w : Reached s F.first K (goes_through s F (drop F.first K))
     w = reached s K F fit legal_here spelled_here
 
-    fit_next : FitsWhole s (base_of s K) (K ++ Restarted rs ds ∷ []) (with_batch F (Restarted rs ds ∷ [])) (last_epoch K)
-    fit_next = record { fits = fits_restarted s (base_of s K) K rs ds F fit.fits; image_whole = fit.image_whole; base_whole = fit.base_whole }
+    fit_next : F.first < length K → FitsWhole s (base_of s K) (K ++ Restarted rs ds ∷ []) (with_batch F (Restarted rs ds ∷ [])) (last_epoch K)
+    fit_next lt = record { fits = fits_restarted s (base_of s K) K rs ds F lt fit.fits; image_whole = fit.image_whole; base_whole = fit.base_whole }
 
+    -- its lists aren't tested right at the image's place
     tested : IsSome (tests s F.first (known_at F.first F.next F.table) (drop F.first (K ++ Restarted rs ds ∷ [])))
-    tested = passes_tests s (base_of s K) M (with_batch F (Restarted rs ds ∷ [])) (last_epoch K) fit_next legal_next spelled_next
+    tested = ⊎_elim
+        (λ lt. passes_tests s (base_of s K) M (with_batch F (Restarted rs ds ∷ [])) (last_epoch K) (fit_next lt) legal_next spelled_next)
+        (λ ge. at_once (omega (arith, ge, fit.fits.count)))
+        (cases_lt F.first (length K))
+      where
+        at_once : F.first ≡ length K → IsSome (tests s F.first (known_at F.first F.next F.table) (drop F.first (K ++ Restarted rs ds ∷ [])))
+        at_once at =
+            let alone : drop F.first (K ++ Restarted rs ds ∷ []) ≡ Restarted rs ds ∷ [] = ap (λ m. drop m (K ++ Restarted rs ds ∷ [])) at ∙ drop_front K (Restarted rs ds ∷ []) in
+            rw (alone, eqb-self F.first) refl
 
     base_format : (i h : ℕ) → K ≡ Format i h ∷ [] → base_of s K ≡ formatted_image s
     base_format i h is = ap (base_of s) is

@@ -13,4 +13,5 @@ pub mod Batches
 pub mod Numbers
 pub mod OnTheWay
 pub mod Worked
+pub mod BehindTheEnd
 pub mod Interrupted

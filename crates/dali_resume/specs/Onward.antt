@@ -22,6 +22,7 @@
 --     ResumesHistories         so of a history what is handed out is right
 --     FormatFits               the files of a format fit the log of its one record: they are read so where no checkpoint was made, however many restarts
 --                              the log has
+--     FormatRests              with a Restarted behind it they fit at the last epoch: a run may start from them
 --     FormatHandsOut           of Format alone, and of Format and Restarted, the formatted regions are handed out, and nobody
 --     CrashIsAnswered          so it is from what a crash of a run with its store leaves
 --     RestartsOnward           where the last epoch has a record, a restart may be stopped and made again
@@ -37,7 +38,7 @@ use Rattle.dali_record.specs.Spelling.{record_length}
 use Rattle.dali_record.specs.Legal.{sizes_of, IsLegalFor}
 use Rattle.dali_record.specs.Log.{undo_step}
 use Rattle.dali_record.specs.Settled.{redo_all}
-use Rattle.dali_record.specs.Files.{Files, Row, is_restarted, next_after}
+use Rattle.dali_record.specs.Files.{Files, Row, is_restarted, next_after, with_batch}
 use Rattle.dali_history.specs.Recovered.{base_of, recovered, roll_back, freed}
 use Rattle.dali_history.specs.History.{AreSpelled, IsHistory, RestartGives}
 use Rattle.dali_runs.specs.State.{CoreState}
@@ -181,6 +182,15 @@ ResumesHistories =
 abbrev pub FormatFits : Type 0
 FormatFits = (s : Sizes) (F : Files) → 0 < s.index → 0 < s.heap → IsFormatted s F → FitsFront s (Format s.index s.heap ∷ []) F
 
+abbrev pub formatted_closed : Sizes → List Record
+formatted_closed s = Format s.index s.heap ∷ Restarted [] [] ∷ []
+
+-- with a Restarted behind it the image stands before that, as the image of a restart does
+abbrev pub FormatRests : Type 0
+FormatRests =
+    (s : Sizes) (F : Files) → 0 < s.index → 0 < s.heap → IsFormatted s F
+    → FitsWhole s (base_of s (formatted_closed s)) (formatted_closed s) (with_batch F (Restarted [] [] ∷ [])) (last_epoch (formatted_closed s))
+
 abbrev pub formatted_outcome : Sizes → Outcome
 formatted_outcome s = record { image = formatted_image s; rolled = []; deleted = [] }
 
@@ -188,7 +198,7 @@ abbrev pub FormatHandsOut : Type 0
 FormatHandsOut =
     (s : Sizes) (F : Files) → 0 < s.index → 0 < s.heap → IsFormatted s F
     → (verdict_of s F (Format s.index s.heap ∷ []) ≡ HandedOut (formatted_outcome s))
-    × (verdict_of s F (Format s.index s.heap ∷ Restarted [] [] ∷ []) ≡ HandedOut (formatted_outcome s))
+    × (verdict_of s F (formatted_closed s) ≡ HandedOut (formatted_outcome s))
 
 -- ---- a crash
 -- what a crash of a run with its store leaves, where a restart of its log is right

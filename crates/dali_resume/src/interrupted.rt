@@ -48,8 +48,9 @@ pub fn a_crash_image_is_found()
 {}
 
 /// The image of a format's files stands behind the first batch, as does that of files behind a restart, and hardly more
-/// checkpoints were made than records stand before it. So it is of each start of a run that has no checkpoint's image, or
-/// whose log has a record behind the format; and so it stays along any steps of a run with its store.
+/// checkpoints were made than records stand before it. Where a gate is open a record stands behind the image, so a restart
+/// tells the lists of the last one. So it is of each start of a run that has no checkpoint's image, or whose log has a record
+/// behind the format; and so it stays along any steps of a run with its store.
 pub fn an_image_keeps_its_place()
     ensures format { FormatHasPlace }
     ensures turned { TurnedHasPlace }

@@ -4,13 +4,14 @@ ghost use Rattle.dali_resume.specs.Refused.{TellsApart};
 ghost use Rattle.dali_resume.specs.Crashes.{EveryHistoryResumes, CrashResumes};
 ghost use Rattle.dali_resume.specs.Again.{HandsOut, RestartsAgain, ResumeGives};
 ghost use Rattle.dali_resume.specs.Finding.{WritesAlike, FindsFromImage, FindsInLast, FindsAfterCrash, KeepsUndos};
+ghost use Rattle.dali_resume.specs.BehindTheEnd.{NobodyBehindTheEnd};
 ghost use Rattle.dali_resume.specs.Ends.{EndsEpochs};
 ghost use Rattle.dali_resume.specs.Rules.{FrontsStand, TestsAreRules, FindsMisfit, LegalStands};
 ghost use Rattle.dali_resume.specs.Batches.{FindsMisplaced, FitsInBatches, AnswersOverBatches, FrontAnswersOverBatches};
 ghost use Rattle.dali_resume.specs.Worked.{MiddleRestarts, MisfitsInTheMiddle};
 ghost use Rattle.dali_resume.specs.OnTheWay.{WritesOnTheWay, FindsOnTheWay, EndsAreHistories};
 ghost use Rattle.dali_resume.specs.Numbers.{ImageStandsWithin, NumberIsSome};
-ghost use Rattle.dali_resume.specs.Onward.{ResumesThrough, ListsAreTested, KnowsAlike, ResumesHistories, FormatFits, FormatHandsOut, CrashIsAnswered, RestartsOnward, RestsFree, ServesAnyLog, OnePassOnward};
+ghost use Rattle.dali_resume.specs.Onward.{ResumesThrough, ListsAreTested, KnowsAlike, ResumesHistories, FormatFits, FormatHandsOut, FormatRests, CrashIsAnswered, RestartsOnward, RestsFree, ServesAnyLog, OnePassOnward};
 
 /// The clean place and the failing regions of an epoch are found in the records behind an image.
 pub fn damage_is_found_behind_an_image()
@@ -145,10 +146,19 @@ pub fn every_history_resumes_behind_restarts()
 {}
 
 /// A format's files are read so too, however many restarts the log has: where no checkpoint was made,
-/// the formatted regions are the image at the first epoch.
+/// the formatted regions are the image at the first epoch. With a Restarted right behind the Format they are
+/// that at the epoch behind both, which is the last one.
 pub fn a_format_is_an_image()
     ensures fits { FormatFits }
+    ensures rests { FormatRests }
     ensures gives { FormatHandsOut }
+{}
+
+/// An image that was put behind the last Restarted, at the log's end: a log of three records, in which a restart rolled
+/// transaction 1 back. The files fit it, but from there no record is read, so a restart hands out the right image and
+/// names nobody. No checkpoint and no restart leaves such an image, and none of the laws on crashes speaks of it.
+pub fn a_restart_names_nobody_behind_the_end()
+    ensures { NobodyBehindTheEnd }
 {}
 
 /// Whatever a crash of a run with its store leaves, where a restart of its log is right: that is answered.

@@ -27,7 +27,7 @@ use Rattle.dali_transcripts.specs.World.{is_claimed_in, is_dead_in}
 use Rattle.dali_core.specs.Vault.Vaulted.{Vaulted}
 use Rattle.dali_core.specs.declared.whole.Core.{Core}
 use Rattle.dali_core.specs.Cores.{HoldsPlaces, IsCoreAt}
-use Rattle.dali_run.specs.Program.{told_in, leaves_in, faults_in}
+use Rattle.dali_run.specs.Program.{told_in, leaves_in, faults_in, fused}
 use Rattle.dali_run.specs.Steps.{CleansAll, CleansUp, HasCleanedUp, IsSame}
 use Rattle.dali_core.proofs.Lengths.{flags_hold}
 
@@ -67,7 +67,7 @@ flags_go (x ∷ xs) p q course tells =
 
 module _ {V : Type 0} (g : Ghosts V) where
   abbrev pub At : Start → List (List Record) → Point → List RegionState → SystemState → Vaulted (Fuse V) → Type 0
-  At s B p gs y v = BeginsAt (told_in g) (leaves_in g) (faults_in g) s B p gs y v
+  At s B p gs y v = BeginsAt (fused g) s B p gs y v
 
   all_dead : (u : ℕ) (c d : Core (Fuse V)) → HasCleanedUp g u c d → AllDead c.system.state → AllDead d.system.state
   all_dead u c d one all = λ t some. by_test t some (u == t) refl
@@ -114,7 +114,7 @@ module _ {V : Type 0} (g : Ghosts V) where
         begins = record {
           stands = record {
             at =
-                subst (λ (w : Vaulted (Fuse V)). IsCoreAt (told_in g) (leaves_in g) (faults_in g) s B at.to d.regions.items d.system.state w) (sym one.vault) at.at;
+                subst (λ (w : Vaulted (Fuse V)). IsCoreAt (fused g) s B at.to d.regions.items d.system.state w) (sym one.vault) at.at;
             whole = at.whole;
             dead = dead;
           };

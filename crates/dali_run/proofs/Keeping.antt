@@ -60,7 +60,6 @@ use Rattle.dali_run.proofs.Survived.{honest_own, survives}
 use Rattle.dali_run.proofs.Unharmed.{within_honest}
 use Rattle.dali_run.proofs.Within.{HoldsWithin, is_round, broken_within, failed_within, only_within, same_fuse, same_state, step_within}
 use Rattle.dali_run.proofs.Surviving.{begins_down, between_holds, told_there, begins_then, fails_own, fit_front, making_down, next_fit, none_down, own_same, own_store, step_goes, step_logs, where_same}
-use Rattle.dali_restart.proofs.Headline.{told_lists}
 
 -- ---- transactions of a log
 record AllIn (kept : List ℕ) (L : List Record) : Type 0 where
@@ -92,8 +91,8 @@ keeps_in kept base L history begins all =
 is_answer : (F : Files) (o : Outcome) → IsHistory (log_in F) → o ≡ said_by F → IsAnswer F o
 is_answer F o history same = record {
   records = subst (HasExpected (log_in F)) (sym (ap (λ (x : Outcome). x.image) same)) (restart_is_right (log_in F) history).gives.records;
-  rolled = λ below. ap (λ (x : Outcome). x.rolled) same ∙ told_lists F _ below;
-  deleted = λ below. ap (λ (x : Outcome). x.deleted) same ∙ told_lists F _ below;
+  rolled = ap (λ (x : Outcome). x.rolled) same;
+  deleted = ap (λ (x : Outcome). x.deleted) same;
 }
 
 each_answers : (F : Files) → FindsIt F → IsHistory (log_in F) → EachRestart F (IsAnswer F)

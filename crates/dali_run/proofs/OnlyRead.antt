@@ -21,7 +21,7 @@ use Rattle.dali_runs.proofs.WholeSteps.{whole_keeps}
 use Rattle.dali_transcripts.specs.Rounds.{IsBetween}
 use Rattle.dali_core.specs.Vault.Vaulted.{Vaulted, with_store}
 use Rattle.dali_core.specs.Cores.{HoldsPlaces}
-use Rattle.dali_run.specs.Program.{told_in, leaves_in, moment_in, since_in, faults_in}
+use Rattle.dali_run.specs.Program.{told_in, leaves_in, moment_in, since_in, faults_in, fused}
 
 -- nothing that a round asks for speaks of the count
 between_there : (c d : CoreState) (n : ℕ) → d ≡ with_vault c (read_failed c.vault n) → IsBetween c → IsBetween d
@@ -37,14 +37,14 @@ module _ {V : Type 0} (g : Ghosts V) where
   Reads old f = OnlyReads (told_in g) (moment_in g) (since_in g) (leaves_in g) old f
 
   abbrev pub Begins : Start → List (List Record) → Point → List RegionState → SystemState → Vaulted (Fuse V) → Type 0
-  Begins s B p gs y v = BeginsAt (told_in g) (leaves_in g) (faults_in g) s B p gs y v
+  Begins s B p gs y v = BeginsAt (fused g) s B p gs y v
 
   -- ---- no read failed
   pub read_begins : (f : Fuse V) (s : Start) (B : List (List Record)) (p : Point) (gs : List RegionState) (y : SystemState) (v : Vaulted (Fuse V)) → Reads v.store f
       → faults_in g f ≡ faults_in g v.store → Begins s B p gs y v → Begins s B p gs y (with_store v f)
   read_begins f s B p gs y v reads kept begins =
       let at = begins.stands.at in
-      let stays = read_stays (told_in g) (leaves_in g) (faults_in g) s B p v (with_store v f) at.vault (record { vault = refl; same = reads.same; crash = reads.crash }, kept) in
+      let stays = read_stays (fused g) s B p v (with_store v f) at.vault (record { vault = refl; same = reads.same; crash = reads.crash }, kept) in
       record {
         stands = record {
           at = record { regions = at.regions; system = at.system; vault = stays.0; none_in_hand = at.none_in_hand };
@@ -67,7 +67,7 @@ module _ {V : Type 0} (g : Ghosts V) where
   unread f s B p gs y v reads rose begins =
       let at = begins.stands.at in
       let n = faults_in g f in
-      let failed = read_faults (told_in g) (leaves_in g) (faults_in g) s B p v (with_store v f) at.vault (record { vault = refl; same = reads.same; crash = reads.crash }, rose) in
+      let failed = read_faults (fused g) s B p v (with_store v f) at.vault (record { vault = refl; same = reads.same; crash = reads.crash }, rose) in
       let q = failed.goes.to in
       let step = failed.goes.step in
       let same : q.core ≡ with_vault p.core (read_failed p.core.vault n) = step.1.0.1.1 in

@@ -23,7 +23,7 @@ use Rattle.dali_run.specs.declared.halt.Halt.TheVariants.{OutOfMemory}
 use Rattle.dali_run.specs.Fails.{FailsAlone, LostOver, Played}
 use Rattle.dali_run.specs.declared.program.Program.{Program}
 use Rattle.dali_run.specs.declared.program.Program.TheVariants.{Up}
-use Rattle.dali_run.specs.Program.{PlacesIn, told_in, leaves_in, faults_in}
+use Rattle.dali_run.specs.Program.{PlacesIn, told_in, leaves_in, faults_in, fused}
 use Rattle.dali_run.specs.Steps.{ActsAlone, Plays, RightWithin, RunsRound, StepsAlone, StepsRound, TellAll}
 use Rattle.dali_run.specs.Texts.{alone_texts, said_texts, is_failure, says_failure}
 use Rattle.dali_run.specs.Told.{alone, told_by}
@@ -64,7 +64,7 @@ most_so a b x y ax by le = omega (arith, ax, by, le)
 module _ {V : Type 0} (g : Ghosts V) (precheck : Bool) where
   abbrev Goes : List Block → Core (Fuse V) → RoundEnd → List Transcribed → Core (Fuse V) → Type 0
   Goes bs c end ts d =
-      RoundGoes (told_in g) (leaves_in g) (faults_in g) precheck bs c.regions.items c.system.state c.vault end ts d.regions.items d.system.state d.vault
+      RoundGoes (fused g) precheck bs c.regions.items c.system.state c.vault end ts d.regions.items d.system.state d.vault
 
   pub plays_done : (bs : List Block) (c d : Core (Fuse V)) (end : RoundEnd) (ts : List Transcribed) → end ≡ Done → Goes bs c end ts d
       → Plays g precheck true (map told_of bs) c ts d

@@ -38,7 +38,7 @@ module _ {V : Type 0} (g : Ghosts V) where
     pub start : Start
     pub batches : List (List Record)
     pub point : Point
-    pub begins : BeginsAt (told_in g) (leaves_in g) (faults_in g) start batches point core.regions.items core.system.state core.vault
+    pub begins : BeginsAt (fused g) start batches point core.regions.items core.system.state core.vault
 
   abbrev pub Stands : Program V → Type 0
   Stands (Up core) = IsStanding core
@@ -87,9 +87,9 @@ module _ {V : Type 0} (g : Ghosts V) (limit : ℕ) (precheck : Bool) where
       → FindsIn g limit precheck old text new step → Are new
   restart_stands old new text (inr stops) found = down_stands g stops.store new stops.down
   restart_stands old new text (inl step) found =
-      let runs : BeginsRun (told_in g) (leaves_in g) (faults_in g) limit found.disk step.core.regions.items step.core.system.state step.core.vault =
+      let runs : BeginsRun (fused g) limit found.disk step.core.regions.items step.core.system.state step.core.vault =
       subst
-      (λ (o : Option Disk). IfSome o (λ fs. BeginsRun (told_in g) (leaves_in g) (faults_in g) limit fs step.core.regions.items step.core.system.state step.core.vault))
+      (λ (o : Option Disk). IfSome o (λ fs. BeginsRun (fused g) limit fs step.core.regions.items step.core.system.state step.core.vault))
       found.tells step.begins in
       let at = restart_begins (fused g) limit found.disk found.files step.core.regions.items step.core.system step.core.vault step.fresh step.whole runs
       found.spells found.finds no_words no_heads none_synced in
@@ -134,7 +134,7 @@ module _ {V : Type 0} (g : Ghosts V) (limit : ℕ) (precheck : Bool) where
       → FindsFiles g limit precheck command old text new step → Are old → Are new
   step_stands (Size index heap) old new text step found a =
       let s = sizes_of index heap in
-      let start = first_at (told_in g) (leaves_in g) (faults_in g) s limit step.core.vault no_words no_heads none_synced in
+      let start = first_at (fused g) s limit step.core.vault no_words no_heads none_synced in
       let begins = format_begins (fused g) s limit step.core.regions.items step.core.system step.core.vault step.fresh step.whole step.begins no_words
       no_heads none_synced in
       up_stands g step.core new step.up (record { start = start; batches = (first_record s ∷ []) ∷ []; point = start_point start; begins = begins.0 })

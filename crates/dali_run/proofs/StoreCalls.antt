@@ -29,7 +29,7 @@ use Rattle.dali_run.specs.declared.program.Program.{Program}
 use Rattle.dali_run.specs.declared.program.Program.TheVariants.{Up, Down}
 use Rattle.dali_run.specs.Fails.{Fails, HaltsWith, KeepsCount, OnlyRead}
 use Rattle.dali_run.specs.Halts.{halt_of_restart}
-use Rattle.dali_run.specs.Program.{store_of, told_in, leaves_in, moment_in, since_in, faults_in}
+use Rattle.dali_run.specs.Program.{store_of, told_in, leaves_in, moment_in, since_in, faults_in, fused}
 use Rattle.dali_run.specs.Steps.{Leaves, Rereads, StepsRestart, StepsSize}
 use Rattle.dali_run.specs.Told.{sizes_of}
 
@@ -47,7 +47,7 @@ module _ {V : Type 0} (g : Ghosts V) (precheck : Bool) where
     pub errors_are : (e ≡ errors.Fault) ⊎ (e ≡ errors.Formatted) ⊎ (e ≡ errors.OutOfMemory)
     pub fault : e ≡ errors.Fault → Rose (faults_in g old) (faults_in g f)
     pub kept : (e ≡ errors.Fault → ⊥) → Keeps old f
-    pub left : IsLeft (told_in g) (leaves_in g) (moment_in g) (since_in g) (faults_in g) passes_of s old f
+    pub left : IsLeft (fused g) s old f
 
   none_other : {P : Type 0} (e x : RestartError) → e ≡ x → (x ≡ errors.Fault → ⊥) → (x ≡ errors.Formatted → ⊥) → (x ≡ errors.OutOfMemory → ⊥)
       → (e ≡ errors.Fault) ⊎ (e ≡ errors.Formatted) ⊎ (e ≡ errors.OutOfMemory) → P
@@ -112,10 +112,10 @@ module _ {V : Type 0} (g : Ghosts V) (limit : ℕ) where
   pub record Formatted (s : Sizes) (old : Fuse V) (c : Core (Fuse V)) : Type 0 where
     pub core : IsNewCore s limit c.regions.items c.system c.vault
     pub whole : IsWholeCore (told_in g) c.regions.items c.system.state c.vault
-    pub begins : RunBegins (told_in g) (leaves_in g) (faults_in g) s limit c.regions.items c.system.state c.vault
+    pub begins : RunBegins (fused g) s limit c.regions.items c.system.state c.vault
     pub unformatted : IfSome (told_in g old) (λ fs. IsUnformatted fs.log)
     pub makes : IfSome (told_in g old) (λ _. (x : Files) → leaves_in g c.vault.store x → IsFormattedBy (leaves_in g old) (first_body s) x)
-    pub left : IsLeft (told_in g) (leaves_in g) (moment_in g) (since_in g) (faults_in g) passes_of s old c.vault.store
+    pub left : IsLeft (fused g) s old c.vault.store
     pub kept : faults_in g c.vault.store ≡ faults_in g old
 
   pub format_steps : (index heap : ℕ) (p : Program V) (c : Core (Fuse V)) (text : List ℕ) → text ≡ [] → Formatted (sizes_of index heap) (store_of p) c
@@ -139,7 +139,7 @@ module _ {V : Type 0} (g : Ghosts V) (limit : ℕ) where
     pub read : IfSome (told_in g old) (λ fs. IsReadAs fs (outcome c.regions.items report))
     pub fresh : IsFresh limit c.regions.items c.system c.vault
     pub whole : IsWholeCore (told_in g) c.regions.items c.system.state c.vault
-    pub begins : IfSome (told_in g old) (λ fs. BeginsRun (told_in g) (leaves_in g) (faults_in g) limit fs c.regions.items c.system.state c.vault)
+    pub begins : IfSome (told_in g old) (λ fs. BeginsRun (fused g) limit fs c.regions.items c.system.state c.vault)
     pub rests : IfSome (told_in g old) (λ fs. (x : Files) → leaves_in g c.vault.store x → LeavesAtRest fs x)
     pub idle : IfSome (told_in g old) (λ fs. StaysIdle (told_in g) (leaves_in g) (moment_in g) (since_in g) fs old c.vault.store)
     pub left : Leaves g old c.vault.store
@@ -148,7 +148,7 @@ module _ {V : Type 0} (g : Ghosts V) (limit : ℕ) where
   -- it began with the store that was given up
   pub restored_by : (old f : Fuse V) (c : Core (Fuse V)) (report : Report) → f ≡ old → IfSome (told_in g f) (λ fs. Gives fs (outcome c.regions.items report)) → IfSome (told_in g f) (λ fs. IsReadAs fs (outcome c.regions.items report))
       → IsFresh limit c.regions.items c.system c.vault → IsWholeCore (told_in g) c.regions.items c.system.state c.vault
-      → IfSome (told_in g f) (λ fs. BeginsRun (told_in g) (leaves_in g) (faults_in g) limit fs c.regions.items c.system.state c.vault) → IfSome (told_in g f) (λ fs. (x : Files) → leaves_in g c.vault.store x → LeavesAtRest fs x)
+      → IfSome (told_in g f) (λ fs. BeginsRun (fused g) limit fs c.regions.items c.system.state c.vault) → IfSome (told_in g f) (λ fs. (x : Files) → leaves_in g c.vault.store x → LeavesAtRest fs x)
       → IfSome (told_in g f) (λ fs. StaysIdle (told_in g) (leaves_in g) (moment_in g) (since_in g) fs f c.vault.store) → Leaves g f c.vault.store → faults_in g c.vault.store ≡ faults_in g f → Restored old c report
   restored_by old f c report same gives read fresh whole begins rests idle left kept =
       subst (λ (o : Fuse V). Restored o c report) same

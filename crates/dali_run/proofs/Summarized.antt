@@ -222,7 +222,7 @@ module _ {V : Type 0} (g : Ghosts V)
         subst SumsIn (sym step.up) (by_told (g.told (inner (store_of old))) tells (reads_now (inner (store_of old))) step.gives step.begins)
       where
         from : (fs : Disk) → IsLeftBy played fs → Gives fs (outcome step.core.regions.items step.report)
-            → BeginsRun (told_in g) (leaves_in g) (faults_in g) limit fs step.core.regions.items step.core.system.state step.core.vault → Sums step.core
+            → BeginsRun (fused g) limit fs step.core.regions.items step.core.system.state step.core.vault → Sums step.core
         from fs has gives runs rows listing =
             let o = gives has.files has.spells has.finds in
             let expected = o.records has.history in
@@ -234,7 +234,7 @@ module _ {V : Type 0} (g : Ghosts V)
             (subst (λ s. IsListing s (in_memory step.core.regions.items) rows) sizes listing)
 
         by_told : (o : Option Disk) → is_some o ≡ true → IfSome o (λ fs. g.may_leave (inner (store_of old)) fs) → IfSome o (λ fs. Gives fs (outcome step.core.regions.items step.report))
-            → IfSome o (λ fs. BeginsRun (told_in g) (leaves_in g) (faults_in g) limit fs step.core.regions.items step.core.system.state step.core.vault) → Sums step.core
+            → IfSome o (λ fs. BeginsRun (fused g) limit fs step.core.regions.items step.core.system.state step.core.vault) → Sums step.core
         by_told None is may gives runs = absurd cc
         by_told (Some fs) is may gives runs = from fs (left fs may) gives runs
 

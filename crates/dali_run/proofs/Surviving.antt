@@ -182,7 +182,7 @@ making_down g p store down d = inr (none_down g p store down, subst (λ q. NoneE
 module _ {V : Type 0} (g : Ghosts V) where
   -- wherever a core stands, behind a round that was cut too
   pub stands_own : (base : List Record) (core : Core (Fuse V)) (s : Start) (B : List (List Record)) (p : Point)
-      → StandsAt (told_in g) (leaves_in g) (faults_in g) s B p core.regions.items core.system.state core.vault → IsPlaced s → IsHistory s.log
+      → StandsAt (fused g) s B p core.regions.items core.system.state core.vault → IsPlaced s → IsHistory s.log
       → BeginsWith base (take (stable p.core) p.log) → is_some (told_in g core.vault.store) ≡ true
       → IsOwnWhere g (NoneEscapesFrom core) base (inner core.vault.store)
   stands_own base core s B p stands placed history flushed tells =
@@ -252,8 +252,8 @@ module _ {V : Type 0} (g : Ghosts V) where
   faults_same passes f h set = ap (λ (n : ℕ). g.faults (inner f) + n) (sym set.failed) ∙ ap (λ (s : V). g.faults s + failed_of h) (sym set.store)
 
   pub fused_begins : (passes : ℕ) (core : Core (Fuse V)) (f : Fuse V) (s : Start) (B : List (List Record)) (p : Point) → SetsFuse passes core.vault.store f
-      → BeginsAt (told_in g) (leaves_in g) (faults_in g) s B p core.regions.items core.system.state core.vault
-      → BeginsAt (told_in g) (leaves_in g) (faults_in g) s B p core.regions.items core.system.state (with_store core.vault f)
+      → BeginsAt (fused g) s B p core.regions.items core.system.state core.vault
+      → BeginsAt (fused g) s B p core.regions.items core.system.state (with_store core.vault f)
   fused_begins passes core f s B p set begins =
       let at = begins.stands.at in
       record {
@@ -433,7 +433,7 @@ module _ {V : Type 0} (g : Ghosts V)
       → (step : StepsSize g limit index heap old text new) → IsPointOf g (first_record (sizes_of index heap) ∷ []) step.core
   size_point limit index heap old new text tells step =
       let s = sizes_of index heap in
-      let start = first_at (told_in g) (leaves_in g) (faults_in g) s limit step.core.vault no_words no_heads none_synced in
+      let start = first_at (fused g) s limit step.core.vault no_words no_heads none_synced in
       let begins = format_begins (fused g) s limit step.core.regions.items step.core.system step.core.vault step.fresh step.whole step.begins no_words
       no_heads none_synced in
       record {
@@ -455,7 +455,7 @@ module _ {V : Type 0} (g : Ghosts V)
       → IfSome (g.told (inner (store_of old))) P → (step : Restarts g limit old text new) → Restarted base step.core
   restart_point limit P base old new text own none step = by_told (g.told (inner (store_of old))) own.0 none (reads_now (inner (store_of old))) step.read step.begins
     where
-      from : (fs : Disk) → BeginsRun (told_in g) (leaves_in g) (faults_in g) limit fs step.core.regions.items step.core.system.state step.core.vault → HasLog base fs → Restarted base step.core
+      from : (fs : Disk) → BeginsRun (fused g) limit fs step.core.regions.items step.core.system.state step.core.vault → HasLog base fs → Restarted base step.core
       from fs runs has =
           let at = restart_begins (fused g) limit fs has.files step.core.regions.items step.core.system step.core.vault step.fresh step.whole runs has.spells has.finds
           no_words no_heads none_synced in
@@ -474,13 +474,13 @@ module _ {V : Type 0} (g : Ghosts V)
             };
           }
 
-      by_case : (fs : Disk) → IsReadAs fs (outcome step.core.regions.items step.report) → BeginsRun (told_in g) (leaves_in g) (faults_in g) limit fs step.core.regions.items step.core.system.state step.core.vault
+      by_case : (fs : Disk) → IsReadAs fs (outcome step.core.regions.items step.report) → BeginsRun (fused g) limit fs step.core.regions.items step.core.system.state step.core.vault
           → Holds base fs → Restarted base step.core
       by_case fs read runs (inl none) = absurd ((reads_once fs (outcome step.core.regions.items step.report) read).2 none.0)
       by_case fs read runs (inr has) = from fs runs has
 
       by_told : (o : Option Disk) → is_some o ≡ true → IfSome o P → IfSome o (λ fs. g.may_leave (inner (store_of old)) fs) → IfSome o (λ fs. IsReadAs fs (outcome step.core.regions.items step.report))
-          → IfSome o (λ fs. BeginsRun (told_in g) (leaves_in g) (faults_in g) limit fs step.core.regions.items step.core.system.state step.core.vault) → Restarted base step.core
+          → IfSome o (λ fs. BeginsRun (fused g) limit fs step.core.regions.items step.core.system.state step.core.vault) → Restarted base step.core
       by_told None is none may read runs = absurd cc
       by_told (Some fs) is none may read runs = by_case fs read runs (own.1 fs may none)
 

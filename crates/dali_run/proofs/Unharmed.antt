@@ -20,7 +20,7 @@ use Rattle.dali_crash.specs.Disks.Disks.{AllSpell}
 use Rattle.dali_crash.proofs.DisksLemmas.Once.{spells_one}
 use Rattle.dali_core.specs.declared.whole.Core.{Core}
 use Rattle.dali_run.specs.Honest.{CoresAreHonest, IsHonestWithin, NonePoked, RoundsAreHonest}
-use Rattle.dali_run.specs.Program.{told_in, leaves_in, faults_in}
+use Rattle.dali_run.specs.Program.{told_in, leaves_in, faults_in, fused}
 use Rattle.dali_run.specs.Survives.{NoneEscapesAt}
 use Rattle.dali_run.proofs.Poked.{course_runs, course_unpoked}
 use Rattle.dali_run.proofs.Surviving.{told_there}
@@ -34,7 +34,7 @@ same_regions e c d same none = record {
 module _ {V : Type 0} (g : Ghosts V) where
   -- wherever a core stands, behind a round that was cut too
   pub stands_honest : (core : Core (Fuse V)) (s : Start) (B : List (List Record)) (p : Point)
-      → StandsAt (told_in g) (leaves_in g) (faults_in g) s B p core.regions.items core.system.state core.vault
+      → StandsAt (fused g) s B p core.regions.items core.system.state core.vault
       → is_some (told_in g core.vault.store) ≡ true → NonePoked core.regions.items → NoneEscapesAt g core
   stands_honest core s B p stands tells none = λ c may v E spells.
       let all : AllSpell (leaves_in g core.vault.store) (TracedTo s B p) = told_there (told_in g core.vault.store) tells stands.at.vault.files in

@@ -27,7 +27,7 @@
 --     AcknowledgedSurvive      of each run
 --     WorkedLinesAcknowledge   the lines of the worked round of dali_transcripts, in which one client commits in its second try, acknowledge just this one
 --                              transaction, and of that round's log its commit is the only one
-use Rattle.std.specs.Prelude.{◌≡◌, ◌⊎◌, ◌<◌, ℕ, Bool, false, List, [], ◌∷◌, ◌++◌, Option, Some, None, Contains, IfSome, flat_map, length, map, option_to_list, take}
+use Rattle.std.specs.Prelude.{◌≡◌, ◌⊎◌, ℕ, Bool, false, List, [], ◌∷◌, ◌++◌, Option, Some, None, Contains, IfSome, flat_map, length, map, option_to_list, take}
 use Rattle.std.proofs.Common.{inl, inr}
 use Rattle.dali_arguments.specs.Meaning.{meaning}
 use Rattle.dali_arguments.specs.declared.task.Task.{Task}
@@ -94,9 +94,8 @@ pub record KeepsIn (kept : List ℕ) (L : List Record) : Type 0 where
 
 pub record IsAnswer (F : Files) (o : Outcome) : Type 0 where
   pub records : HasExpected (log_in F) o.image
-  -- where a record stands behind the image, else no list is told
-  pub rolled : F.first < length (log_in F) → o.rolled ≡ rolled_list (recovered_epoch (log_in F))
-  pub deleted : F.first < length (log_in F) → o.deleted ≡ deleted_list (recovered_epoch (log_in F))
+  pub rolled : o.rolled ≡ rolled_list (recovered_epoch (log_in F))
+  pub deleted : o.deleted ≡ deleted_list (recovered_epoch (log_in F))
 
 pub record HasKept (kept : List ℕ) (c : Disk) : Type 0 where
   pub files : Files

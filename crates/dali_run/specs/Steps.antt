@@ -60,7 +60,7 @@ use Rattle.dali_report.specs.declared.printed.Line.TheVariants as lines
 use Rattle.dali_report.specs.Lines.{texts}
 use Rattle.dali_run.specs.declared.program.Program.{Program}
 use Rattle.dali_run.specs.declared.program.Program.TheVariants.{Up, Down}
-use Rattle.dali_run.specs.Program.{IsDown, PlacesIn, store_of, told_in, leaves_in, moment_in, since_in, faults_in}
+use Rattle.dali_run.specs.Program.{IsDown, PlacesIn, store_of, told_in, leaves_in, moment_in, since_in, faults_in, fused}
 use Rattle.dali_run.specs.Texts.{shown, round_lines, alone_texts, says_failure}
 use Rattle.dali_run.specs.Told.{told_by, alone, sizes_of}
 
@@ -108,7 +108,7 @@ verdict false = lines.VerifyDiffers
 module _ {V : Type 0} (g : Ghosts V) where
   pub record HasCleanedUp (t : ℕ) (c d : Core (Fuse V)) : Type 0 where
     pub was : IsDead (state_of c.system.state t)
-    pub ends : EndsAt (told_in g) (leaves_in g) (faults_in g) c.regions.items c.system.state c.vault t d.regions.items d.system.state
+    pub ends : EndsAt (fused g) c.regions.items c.system.state c.vault t d.regions.items d.system.state
     pub gone : IsGone d.system.state t
     pub others : OthersStay c.regions.items c.system.state t d.regions.items d.system.state
     pub dead : AreDead c.regions.items → AreDead d.regions.items
@@ -149,14 +149,14 @@ module _ {V : Type 0} (g : Ghosts V) where
     abbrev pub Plays : Bool → List Told → Core (Fuse V) → List Transcribed → Core (Fuse V) → Type 0
     Plays whole blocks c transcripts d =
         (s : Start) (B : List (List Record)) (p : Point)
-        → BeginsAt (told_in g) (leaves_in g) (faults_in g) s B p c.regions.items c.system.state c.vault
-        → RoundLeads (told_in g) (leaves_in g) (faults_in g) precheck whole s p blocks (map lines_in transcripts) (map (λ t. t.receipts) transcripts)
+        → BeginsAt (fused g) s B p c.regions.items c.system.state c.vault
+        → RoundLeads (fused g) precheck whole s p blocks (map lines_in transcripts) (map (λ t. t.receipts) transcripts)
         d.regions.items d.system.state d.vault
 
   -- a crash at any moment of a round leaves files that restart right
   abbrev pub RightWithin : Core (Fuse V) → Core (Fuse V) → Type 0
   RightWithin c d =
-      RoundLeavesRight (told_in g) (leaves_in g) (faults_in g) (moment_in g) (since_in g) c.regions.items c.system.state c.vault
+      RoundLeavesRight (fused g) c.regions.items c.system.state c.vault
       d.regions.items d.system.state d.vault
 
   module _ (precheck : Bool) where
@@ -196,10 +196,10 @@ module _ {V : Type 0} (g : Ghosts V) where
   -- the files that a database is made in, and those that a restart works on
   abbrev pub Makes : ℕ → ℕ → Fuse V → Fuse V → Type 0
   Makes index heap old new =
-      IsMade (told_in g) (leaves_in g) (moment_in g) (since_in g) (faults_in g) passes_of (sizes_of index heap) old new
+      IsMade (fused g) (sizes_of index heap) old new
 
   abbrev pub Leaves : Fuse V → Fuse V → Type 0
-  Leaves old new = IsLeft (told_in g) (leaves_in g) (moment_in g) (since_in g) (faults_in g) passes_of old new
+  Leaves old new = IsLeft (fused g) old new
 
   -- the store was read, and nothing is otherwise
   pub record IsRead (c d : Core (Fuse V)) : Type 0 where
@@ -245,7 +245,7 @@ module _ {V : Type 0} (g : Ghosts V) where
       pub up : new ≡ Up core
       pub fresh : IsNewCore (sizes_of index heap) limit core.regions.items core.system core.vault
       pub whole : IsWholeCore (told_in g) core.regions.items core.system.state core.vault
-      pub begins : RunBegins (told_in g) (leaves_in g) (faults_in g) (sizes_of index heap) limit core.regions.items core.system.state core.vault
+      pub begins : RunBegins (fused g) (sizes_of index heap) limit core.regions.items core.system.state core.vault
       pub unformatted : IfSome (told_in g (store_of old)) (λ fs. IsUnformatted fs.log)
       pub makes : IfSome (told_in g (store_of old)) (λ _. (c : Files) → leaves_in g core.vault.store c
           → IsFormattedBy (leaves_in g (store_of old)) (first_body (sizes_of index heap)) c)
@@ -263,7 +263,7 @@ module _ {V : Type 0} (g : Ghosts V) where
       pub fresh : IsFresh limit core.regions.items core.system core.vault
       pub whole : IsWholeCore (told_in g) core.regions.items core.system.state core.vault
       pub begins : IfSome (told_in g (store_of old)) (λ fs.
-          BeginsRun (told_in g) (leaves_in g) (faults_in g) limit fs core.regions.items core.system.state core.vault)
+          BeginsRun (fused g) limit fs core.regions.items core.system.state core.vault)
       pub rests : IfSome (told_in g (store_of old)) (λ fs. (c : Files) → leaves_in g core.vault.store c → LeavesAtRest fs c)
       pub idle : IfSome (told_in g (store_of old)) (λ fs.
           StaysIdle (told_in g) (leaves_in g) (moment_in g) (since_in g) fs (store_of old) core.vault.store)

@@ -62,7 +62,7 @@ use Rattle.dali_run.specs.declared.status.Status.TheVariants.{Done, WriteFault, 
 use Rattle.dali_run.specs.Ends.{Course, Ended, EndedGenerator, EndedScript, GeneratorFails, GeneratorFinds, GeneratorLoses, GeneratorStops, GeneratorWants, HasEnded, HasStopped, Untouched}
 use Rattle.dali_run.specs.Fails.{AloneFails, Breaks, Fails, Lost, StoreFailsIn}
 use Rattle.dali_run.specs.Generating.{IsCrashed, IsPlayed}
-use Rattle.dali_run.specs.Program.{store_of, told_in, leaves_in, faults_in}
+use Rattle.dali_run.specs.Program.{store_of, told_in, leaves_in, faults_in, fused}
 use Rattle.dali_run.specs.Run.{HasRun, RunsAll}
 use Rattle.dali_run.specs.Scripts.{CutIn, RanWhole, StoppedIn}
 use Rattle.dali_run.specs.Steps.{Plays, Steps, StepsRestart}
@@ -123,7 +123,7 @@ module _ {V : Type 0} (g : Ghosts V) where
     pub history : IsHistory start.log
     pub batches : List (List Record)
     pub point : Point
-    pub begins : BeginsAt (told_in g) (leaves_in g) (faults_in g) start batches point core.regions.items core.system.state core.vault
+    pub begins : BeginsAt (fused g) start batches point core.regions.items core.system.state core.vault
     pub flushed : base ≡ take (stable point.core) point.log
 
   abbrev pub IsAPoint : (Disk → Type 0) → List Record → Program V → Type 0

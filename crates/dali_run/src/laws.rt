@@ -19,8 +19,8 @@ use dali_store::Store;
 /// transaction for which a line `commit ok` was told up to there. It has the commits in base too, the records which every crash of
 /// the handed-in store leaves. Each of them survives, or a chain of logged reads or undone changes links it to a region that failed
 /// its audit, and not both. Each restart of the files, however many were stopped before, gives exactly the records of the survivors,
-/// replayed one after another in commit order with the answers that they got. Where a record stands behind the image it reports just
-/// the transactions that it rolled back and those that it deleted. So does a restart of the run itself, in memory and by its lines,
+/// replayed one after another in commit order with the answers that they got. It reports just the transactions that were rolled back
+/// and those that were deleted, of the last epoch that has a record. So does a restart of the run itself, in memory and by its lines,
 /// and so do restarts of the store that comes back, with every status. It is asked that the handed-in store tells its files, and
 /// that a crash leaves of it only files of which a restart finds a history, or no database. All this is said of each of the files
 /// that a crash may leave by itself, if no damage escapes from them, as without stray writes. Where the memory was given up before,

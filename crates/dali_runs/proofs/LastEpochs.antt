@@ -1,15 +1,15 @@
 -- The last epoch of a log, and the records behind its beginning.
-use Rattle.std.proofs.Common.{◌≡◌, ℕ, zero, suc, ◌+◌, ◌-◌, ◌<◌, ◌≤◌, Bool, true, false, List, [], ◌∷◌, ◌++◌, length, drop, Some, refl, ap, sym, subst, ◌∙◌, inl, inr, ◌⊎◌, append_assoc, arith}
-use Rattle.std.specs.Prelude.{◌||◌, nat_le, nat_lt}
-use Rattle.std.specs.List.{AllByRecursion, list_any}
+use Rattle.std.proofs.Common.{◌≡◌, ℕ, zero, suc, ◌+◌, ◌-◌, ◌<◌, ◌≤◌, Bool, true, false, List, [], ◌∷◌, ◌++◌, length, drop, None, refl, ap, sym, subst, ◌∙◌, append_assoc, arith}
+use Rattle.std.specs.Prelude.{nat_lt, unwrap_or}
+use Rattle.std.specs.List.{AllByRecursion, find, list_any}
 use Rattle.std.proofs.lemmas.List.{append-nil, drop-append-le, drop_all, drop-drop, length_push}
-use Rattle.std.proofs.lemmas.Bool.{leb-true, le-leb, ltb-true, lt-ltb, or_parts}
+use Rattle.std.proofs.lemmas.Bool.{ltb-true, or_parts}
 use Rattle.std.proofs.lemmas.List.Folds.{list_any-append}
 use Rattle.dali_lists.proofs.Members.{all_push}
 use Rattle.dali_record.specs.declared.records.Record.{Record}
 use Rattle.dali_record.specs.declared.records.Record.TheVariants.{Format, Begin, Forward, Done, Commit, Ended, Solo, AuditBegin, AuditClean, AuditFail, Restarted, Back}
-use Rattle.dali_record.specs.Epochs.{separates, Epoch, Cut, next_number, cut_step, cut, last_epoch, epochs}
-use Rattle.dali_record.specs.Files.{is_epoch_for, epoch_from}
+use Rattle.dali_record.specs.Epochs.{separates, Epoch, Cut, next_number, cut_step, cut, last_epoch}
+use Rattle.dali_record.specs.Files.{ends_behind, epoch_from}
 use Rattle.dali_record.proofs.Ends.{by_push}
 use Rattle.dali_record.proofs.Pushes.{cut_push}
 use Rattle.dali_record.proofs.Batches.{last_push}
@@ -93,31 +93,22 @@ pub end_before : (L : List Record) → EndBefore (last_epoch L).first (cut L).cl
 end_before L = by_push (λ M. EndBefore (cut M).now.first (cut M).closed) tt (λ M x b. subst (λ (c : Cut). EndBefore c.now.first c.closed) (sym (cut_push M x)) (before_step (cut M) x b)) L
 
 -- ---- the epoch of a number
-not_for : (n : ℕ) (e : Epoch) → next_number e ≤ n → e.first < n → is_epoch_for n e ≡ false
-not_for n e h g = by_tests (nat_le n e.first) (nat_lt n (next_number e)) refl refl
+not_for : (n : ℕ) (e : Epoch) → next_number e ≤ n → ends_behind n e ≡ false
+not_for n e h = by_test (nat_lt n (next_number e)) refl
   where
-    by_tests : (a b : Bool) → nat_le n e.first ≡ a → nat_lt n (next_number e) ≡ b → (a || b) ≡ false
-    by_tests true b p q = absurd (omega (arith, leb-true n e.first p, g))
-    by_tests false true p q = absurd (omega (arith, ltb-true n (next_number e) q, h))
-    by_tests false false p q = refl
+    by_test : (b : Bool) → nat_lt n (next_number e) ≡ b → b ≡ false
+    by_test true q = absurd (omega (arith, ltb-true n (next_number e) q, h))
+    by_test false q = refl
 
-is_for : (n : ℕ) (e : Epoch) → (n ≤ e.first) ⊎ (n < next_number e) → is_epoch_for n e ≡ true
-is_for n e (inl h) = rw (le-leb n e.first h) refl
-is_for n e (inr h) = or_true (nat_le n e.first) (nat_lt n (next_number e)) (lt-ltb n (next_number e) h)
-  where
-    or_true : (a b : Bool) → b ≡ true → (a || b) ≡ true
-    or_true true b p = refl
-    or_true false b p = p
+-- no epoch ends behind n
+none_for : (n : ℕ) (es : List Epoch) → AllByRecursion (λ (d : Epoch). next_number d ≤ n) es → find (ends_behind n) es ≡ None
+none_for n [] b = refl
+none_for n (d ∷ es) b = rw (not_for n d b.0) (none_for n es b.1)
 
--- the epochs before n, and one for it
-pub found_for : (n : ℕ) (es : List Epoch) (e : Epoch) → AllByRecursion (λ (d : Epoch). (next_number d ≤ n) × (d.first < n)) es → (n ≤ e.first) ⊎ (n < next_number e) → epoch_from n (es ++ e ∷ []) ≡ Some e
-found_for n [] e b h = rw (is_for n e h) refl
-found_for n (d ∷ es) e b h = rw (not_for n d b.0.0 b.0.1) (found_for n es e b.1 h)
-
-pub sooner : (m n : ℕ) (es : List Epoch) → m ≤ n → EndBefore m es → AllByRecursion (λ (d : Epoch). (next_number d ≤ n) × (d.first < n)) es
+pub sooner : (m n : ℕ) (es : List Epoch) → m ≤ n + 1 → EndBefore m es → AllByRecursion (λ (d : Epoch). next_number d ≤ n) es
 sooner m n [] h b = tt
-sooner m n (d ∷ es) h b = ((omega (arith, h, b.0), omega (arith, h, b.0)), sooner m n es h b.1)
+sooner m n (d ∷ es) h b = (omega (arith, h, b.0), sooner m n es h b.1)
 
--- a number in the last epoch
-pub epoch_of : (L : List Record) (n : ℕ) → (last_epoch L).first ≤ n → n < next_number (last_epoch L) → epoch_from n (epochs L) ≡ Some (last_epoch L)
-epoch_of L n h g = found_for n (cut L).closed (last_epoch L) (sooner (last_epoch L).first n (cut L).closed h (end_before L)) (inr g)
+-- a number in the last epoch, or that of the record right before it
+pub epoch_of : (L : List Record) (n : ℕ) → (last_epoch L).first ≤ n + 1 → epoch_from n L ≡ last_epoch L
+epoch_of L n h = ap (λ o. unwrap_or o (last_epoch L)) (none_for n (cut L).closed (sooner (last_epoch L).first n (cut L).closed h (end_before L)))

@@ -6,7 +6,7 @@ use Rattle.std.specs.Prelude.{◌≡◌, ℕ, ◌-◌, ◌<◌, ◌≤◌, Bool,
 use Rattle.dali_geometry.specs.Sizes.{Sizes}
 use Rattle.dali_geometry.specs.Places.{regions, formatted_image}
 use Rattle.dali_record.specs.declared.records.Record.{Record}
-use Rattle.dali_record.specs.Epochs.{Epoch, epochs, last_epoch, recovered_epoch, clean_place}
+use Rattle.dali_record.specs.Epochs.{Epoch, last_epoch, recovered_epoch, clean_place}
 use Rattle.dali_record.specs.Settled.{words_in, redo_all, settled_before}
 use Rattle.dali_record.specs.Spelling.{record_length}
 use Rattle.dali_record.specs.Files.{Files, batch_length, is_restarted_first, table_before, next_after, epoch_from}
@@ -33,7 +33,7 @@ pub record FitsBut (s : Sizes) (bases : Bases) (missed : ℕ → Bool) (K : List
   pub fresh : F.gates ≡ 0 → (F.place ≡ 15) × (F.first ≡ 1) × (F.table ≡ []) × (F.image ≡ formatted_image s)
   pub current : 0 < F.gates → F.number ≡ F.gates
   pub whole : length F.image ≡ regions s
-  pub epoch : epoch_from F.first (epochs K) ≡ Some e
+  pub epoch : epoch_from F.first K ≡ e
   pub recent : (e ≡ recovered_epoch K) ⊎ (e ≡ last_epoch K)
   pub certified : F.first ≤ clean_place e
   pub table_is : F.table ≡ table_before e F.first

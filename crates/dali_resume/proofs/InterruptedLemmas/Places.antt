@@ -20,7 +20,7 @@ use Rattle.dali_crash.specs.Checkpoints.{Came, Copies, CopyFails, Does, Finishes
 use Rattle.dali_crash.specs.StoreRuns.{IsKept, IsPlace, StoreRun}
 use Rattle.dali_crash.specs.Traces.{bases_of, start_point}
 use Rattle.dali_crash.proofs.Restarts.{begins_behind}
-use Rattle.dali_crash.proofs.StoreRuns.{store_step_keeps, other_side}
+use Rattle.dali_crash.proofs.StoreRuns.{later_than, store_step_keeps, other_side}
 use Rattle.dali_crash.proofs.Traces.{start_runs}
 use Rattle.dali_resume.specs.Again.{closing}
 use Rattle.dali_resume.proofs.Reading.{placed}
@@ -35,7 +35,7 @@ some_bytes (b ∷ bs) h = omega (arith, sum_by-append batch_length (b ∷ []) bs
 
 -- ---- where a core is made
 pub format_has_place : FormatHasPlace
-format_has_place s F is = record { placed = omega (arith, is.place); moved = omega (arith, is.gates); some = inl is.gates }
+format_has_place s F is = record { placed = omega (arith, is.place); moved = omega (arith, is.gates); some = inl is.gates; read = inl is.gates }
 
 pub turned_has_place : TurnedHasPlace
 turned_has_place L B n F w t = subst HasPlace (sym t.2) (record {
@@ -47,6 +47,7 @@ turned_has_place L B n F w t = subst HasPlace (sym t.2) (record {
     length-append L (closing L ∷ []),
     none_in_nothing L w.some.0 w.some.1 w.some.2,
   ));
+  read = inr (omega (arith, ap length (closing_log L B n t.0 w t.1), length-append L (closing L ∷ [])));
 })
 
 -- the image of a log without a record in its last epoch stands at the log's end, or a record before it
@@ -59,7 +60,7 @@ start_has_place s D from either = ⊎_elim none some either
     none : s.vault.current ≡ 0 → HasPlace D
     none e =
         let gates : D.gates ≡ 0 = from.rests.current ∙ e in
-        record { placed = omega (arith, (fits.fresh gates).0); moved = omega (arith, gates); some = inl gates }
+        record { placed = omega (arith, (fits.fresh gates).0); moved = omega (arith, gates); some = inl gates; read = inl gates }
 
     low : length s.log ≤ D.first + 1
     low =
@@ -76,6 +77,7 @@ start_has_place s D from either = ⊎_elim none some either
           (some_bytes (take fits.batch.0 D.batches) (omega (arith, ap length fits.batch.1, length-take-le D.first s.log fits.count, low, two)));
       moved = omega (arith, from.rests.current, from.rests.vault.moved, low);
       some = inr (omega (arith, two, ap length fits.log));
+      read = from.rests.read;
     }
 
 -- ---- sides
@@ -83,20 +85,21 @@ start_has_place s D from either = ⊎_elim none some either
 
 -- ---- one step
 framed : (D : Files) (frame : List Record) → HasPlace D → HasPlace (with_frame D frame)
-framed D [] has = record { placed = has.placed; moved = has.moved; some = has.some }
+framed D [] has = record { placed = has.placed; moved = has.moved; some = has.some; read = has.read }
 framed D (r ∷ rs) has = record {
   placed = has.placed;
   moved = has.moved;
-  some = ⊎_elim
-      (λ none. inl none)
-      (λ two. inr (omega (
-        arith,
-        two,
-        ap length (flat_map-append (λ b. b) D.batches ((r ∷ rs) ∷ [])),
-        length-append (log_in D) (flat_map (λ b. b) ((r ∷ rs) ∷ [])),
-      )))
-      has.some;
+  some = ⊎_elim (λ none. inl none) (λ two. inr (omega (arith, two, longer))) has.some;
+  read = ⊎_elim (λ none. inl none) (λ behind. inr (omega (arith, behind, longer))) has.read;
 }
+  where
+    longer : length (log_in D) ≤ length (log_in (with_frame D (r ∷ rs)))
+    longer =
+        omega (
+          arith,
+          ap length (flat_map-append (λ b. b) D.batches ((r ∷ rs) ∷ [])),
+          length-append (log_in D) (flat_map (λ b. b) ((r ∷ rs) ∷ [])),
+        )
 
 module _ (bases : Bases) (before : List Record) (st : Point) (D : Files) (run : StoreRun bases before (only D) st) where
   on : RunsOn bases st.log st.core
@@ -122,6 +125,7 @@ module _ (bases : Bases) (before : List Record) (st : Point) (D : Files) (run : 
         )));
     moved = omega (arith, gates runs, kept.moved);
     some = inr (omega (arith, behind_format k may.clean, may.flushed, is.flushed, ap length is.log, length-take-le is.count st.log is.within));
+    read = inr (omega (arith, later_than bases before (only D) st h b k run may, may.ends, may.flushed, is.flushed, ap length is.log, length-take-le is.count st.log is.within));
   }
     where
       is : IsPrefix st.log (stable st.core) D

@@ -110,7 +110,7 @@ logged_says L B n D w f = record {
     found = record {
       batches = refl;
       gates = refl;
-      place = record { placed = f.place.placed; moved = f.place.moved; some = inr (omega (arith, behind, b.size)) };
+      place = record { placed = f.place.placed; moved = f.place.moved; some = inr (omega (arith, behind, b.size)); read = inr (omega (arith, behind, b.size)) };
       front = f.front;
       more = f.more ++ (closing L ∷ []) ∷ [];
       log = records ∙ sym log;

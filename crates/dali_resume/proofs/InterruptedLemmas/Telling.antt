@@ -271,7 +271,7 @@ module _ (fs : Disk) (F : Files) (is : Spells fs F) (finds : FindsIt F) where
     found = record {
       batches = refl;
       gates = refl;
-      place = record { placed = f.place.placed; moved = f.place.moved; some = inr (omega (arith, far, size, first_some)) };
+      place = record { placed = f.place.placed; moved = f.place.moved; some = inr (omega (arith, far, size, first_some)); read = inr (omega (arith, far, size)) };
       front = f.front;
       more = older;
       log = ap (λ X. X ++ records_of older) (sym first_log) ∙ sym (flat_map-append (λ x. x) bs older);

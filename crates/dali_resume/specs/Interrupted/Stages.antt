@@ -2,7 +2,8 @@
 -- Where the last epoch has none a restart logs nothing. It writes nothing either where no record stands from the image's place on, of which no law here
 -- speaks, or Restarted alone, as at the third stage. Else the log ends with the batch of Restarted, and the restart goes on from the second stage.
 --     IsRestarting L B         what is asked of the log, honest or not: but for what a restart hands out, which is said of a history
---     HasPlace F               the image stands behind the first batch, and its number is hardly above that of the records before it
+--     HasPlace F               the image stands behind the first batch, its number is hardly above that of the records before it, and a record stands
+--                              behind the image, where a gate is open
 --     IsFound L B n F          the files as they are found: their image fits a front of the log at its last epoch, whose batches are the first of the
 --                              disk's. Any batches stand behind these, where each Restarted is the first record of its batch
 --     IsLogged L B n F         with the batch of Restarted
@@ -39,7 +40,7 @@ use Rattle.dali_log.specs.Log.{LogOf, bodies, records_in}
 use Rattle.dali_runs.specs.Run.{log_in}
 use Rattle.dali_crash.specs.Checkpoints.{side_of}
 use Rattle.dali_crash.specs.Starts.{IsLawful}
-use Rattle.dali_crash.specs.Traces.{MayRun, Start, StartsAt}
+use Rattle.dali_crash.specs.Traces.{IsRead, MayRun, Start, StartsAt}
 use Rattle.dali_crash.specs.Disks.Disks.{AllSpell, IsImageOf, image_file, image_name}
 use Rattle.dali_log.specs.Anchors.{IsAnchor}
 use Rattle.dali_log.specs.Anchors.{HasMoved, MayHaveMoved, AreAnchored}
@@ -54,12 +55,14 @@ pub record IsRestarting (L : List Record) (B : List (List Record)) : Type 0 wher
   pub some : (r : Record) × (E : List Record) × ((last_epoch L).records ≡ r ∷ E)
 
 -- ---- the files
--- the image stands behind the first batch, and hardly more checkpoints were made than records stand before it: so the anchor may be moved; and none
--- was made of a log of the format alone
+-- The image stands behind the first batch, and hardly more checkpoints were made than records stand before it: so the anchor may be moved; and none
+-- was made of a log of the format alone. A record stands behind the image of a checkpoint or a restart: so the lists of the last restart are read. Where
+-- an image was put behind the last Restarted by hand, nobody is told, whoever that one named (`a_restart_names_nobody_behind_the_end` of dali_resume)
 pub record HasPlace (F : Files) : Type 0 where
   pub placed : 0 < F.place
   pub moved : F.gates ≤ F.first + 1 + 2 ^ 61
   pub some : (F.gates ≡ 0) ⊎ (1 < length (log_in F))
+  pub read : IsRead F
 
 pub record IsFound (L : List Record) (B : List (List Record)) (n : ℕ) (F : Files) : Type 0 where
   pub batches : F.batches ≡ B
