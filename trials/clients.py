@@ -2,7 +2,7 @@
 with the operation in which its client died."""
 import formats as f
 from shapes import Case, Run, lines
-from worked import Database
+from worked import FREE, Database, words_of
 
 DEAD_IN_PUT = "client 1; begin; insert 5 abc; die 2; insert 6 x; end"
 DEAD_TOLD = "1 begin 1; 1 insert ok; 1 died"
@@ -37,11 +37,17 @@ def the_put_is_durable(files: dict[str, bytes]) -> bool | str:
     return files["dali.log"] == whole or f"{files['dali.log'].hex()}, wanted {whole.hex()}"
 
 
+def the_cell_is_free(files: dict[str, bytes]) -> bool | str:
+    """Whether the first cell of the heap region is free in the image that the restart wrote, which is the first one."""
+    state = words_of(files["dali.a"], 1)[8]
+    return state == FREE or f"the cell's state is {state}"
+
+
 CASES = [
     Case("a put that is logged and flushed, and whose insert isn't done, is rolled back", [
         Run(lines("size 1 1; client 1; begin; die 3; insert 5 abc; end; audit"), lines("1 begin 1; 1 died; audit clean"),
             crash=1, after=the_put_is_durable),
-        Run(lines("open; show"), lines("rolled back 1; deleted none; records 0")),
+        Run(lines("open; show"), lines("rolled back 1; deleted none; records 0"), after=the_cell_is_free),
     ]),
     shared("an older reader that writes", WRITES, READS, "begin 2; got a; update ok; commit ok", f"begin 3; {READ_FIRST}"),
     shared("a younger reader that writes", READS, WRITES, f"begin 2; {READ_FIRST}",

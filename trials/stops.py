@@ -63,14 +63,17 @@ def keeps_the_chain(_number: int, done: list[Done]) -> bool | str:
     told = first.out.count("1 commit ok")
     if later.status == 8:
         return told == 0 or f"{told} commits were told, and there is no database"
-    deleted = later.out.split("\n")[1]
-    records = later.out.split("\n")[2:-2]
+    rolled_back, deleted, *records = later.out.split("\n")[:-2]
+    if later.status != 0 or later.out.split("\n")[-2] != f"records {len(records)}":
+        return f"the later one ends with {later.status} and {later.out!r}"
+    if rolled_back != "rolled back none" and rolled_back != f"rolled back {told + 1}":
+        return f"{told} commits were told; {later.out!r}"
     if deleted == "deleted 3 5":
         return told == 5 and records == ["4 abc", "5 y"] or f"{told} commits were told; {later.out!r}"
     if "1 audit failed 3" in first.out:
         return f"the audit was told; {later.out!r}"
     there = [number for number in (told, told + 1) if number <= 5 and records == BEHIND[number]]
-    return later.status == 0 and deleted == "deleted none" and there != [] or f"{told} commits were told; {later.out!r}"
+    return deleted == "deleted none" and there != [] or f"{told} commits were told; {later.out!r}"
 
 
 # How many calls of the store the restart behind the chain makes.

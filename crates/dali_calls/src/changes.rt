@@ -27,7 +27,7 @@ impl Model for Changes {
 }
 
 impl Changes {
-    /// None.
+    /// No changes.
     pub fn new() -> Self
         ensures { result ≡ [] }
     {
@@ -44,7 +44,7 @@ impl Changes {
         self.first.is_none()
     }
 
-    /// The last of them.
+    /// The last change of the call.
     pub fn last(&self) -> Option<Pending>
         ensures { result ≡ last_of self.now }
     {
@@ -54,7 +54,7 @@ impl Changes {
         }
     }
 
-    /// One more.
+    /// One change more.
     pub fn push(&mut self, pending: Pending)
         requires { length self.old < 2 }
         ensures { self.new ≡ self.old ++ pending ∷ [] }
@@ -66,7 +66,7 @@ impl Changes {
         }
     }
 
-    /// All but the last.
+    /// All changes but the last.
     pub fn pop(&mut self)
         ensures { self.new ≡ drop_last self.old }
     {

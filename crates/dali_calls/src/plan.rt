@@ -122,7 +122,7 @@ impl Plan {
         self.geometry
     }
 
-    /// Its transaction.
+    /// The transaction whose call the plan is.
     pub fn txn(&self) -> u64
         ensures { result ≡ self.now.txn }
     {

@@ -241,4 +241,4 @@ module _ {V : Type 0} (means : Ghosts V) where
   words_skip s B p gs y v c h run k next reaches = skip_far s B p gs y v c h (length run) k each reaches
     where
       each : (j : ℕ) → j < length run → (g : RegionState) × (slice_get gs (c.copied + j) ≡ Some g) × (is_dirty g (side_in c) ≡ false)
-      each j lt = let at = get_within run j lt in (at.0, next j at.0 at.1)
+      each j lt = let at = get_within run j lt in (at.0, (next j at.0 at.1).0, (next j at.0 at.1).1)

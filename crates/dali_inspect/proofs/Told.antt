@@ -2,6 +2,7 @@
 use Rattle.std.proofs.Common.{◌≡◌, ◌∙◌, ℕ, List, [], false, Option, Some, None, Result, Ok, Err, IfSome, IfErr, OnOk, refl, sym, ap, subst}
 use Rattle.dali_store.specs.declared.store.FileName.{FileName}
 use Rattle.dali_store.specs.Store.{Files as Disk}
+use Rattle.dali_store.specs.declared.store.Store.{Ghosts}
 use Rattle.dali_region.specs.State.{RegionState}
 use Rattle.dali_runs.specs.State.{SystemState}
 use Rattle.dali_crash.specs.Disks.Disks.{head_of}
@@ -45,9 +46,9 @@ long_as restarts.Unsteady e = absurd (cc)
 long_as restarts.OutOfMemory e = absurd (cc)
 
 -- ---- the log
-pub weighs : {V : Type 0} (told : V → Option Disk) (may : V → Disk → Type 0) (faults : V → ℕ) (fs : Disk) (limit : ℕ) (gs : List RegionState) (y : SystemState) (v : Vaulted V) (end : ℕ)
-    → end ≡ y.end → BeginsRun told may faults limit fs gs y v → Weighs fs end
-weighs told may faults fs limit gs y v end is begins F spells finds =
+pub weighs : {V : Type 0} (means : Ghosts V) (fs : Disk) (limit : ℕ) (gs : List RegionState) (y : SystemState) (v : Vaulted V) (end : ℕ)
+    → end ≡ y.end → BeginsRun means limit fs gs y v → Weighs fs end
+weighs means fs limit gs y v end is begins F spells finds =
     let run = begins F spells finds in
     record {
       log = run.log;

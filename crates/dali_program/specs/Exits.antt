@@ -1,16 +1,16 @@
 -- The numbers that the program ends with.
 --     number_of status      the number of a status
---     ExitsWith number      the run ended with a status of this number; what was committed survives, where no damage escapes; and the headline holds of each of its
---                           states, and of the store that comes back
+--     ExitsWith number      the run ended with a status of this number; what was committed survives, where no damage escapes; the headline holds of each of its
+--                           states, and of the store that comes back; and what a script's lines acknowledged is durable, with damage too
 --     Refuses number        there was no memory before the run: nothing was read or run, and the last line was written
 use Rattle.std.specs.Prelude.{◌≡◌, ℕ, List}
 use Rattle.dali_arguments.specs.Meaning.{meaning}
 use Rattle.dali_record.specs.declared.records.Record.{Record}
-use Rattle.dali_record.specs.Log.{committed}
 use Rattle.dali_run.specs.declared.status.Status.{Status}
 use Rattle.dali_run.specs.declared.status.Status.TheVariants.{Done, BadWords, BadScript, TooLong, ReadFault, WriteFault, StoreFault, BadStore, Unformatted, Formatted, OutOfMemory, LogFull, StoreUnsteady, RecordTooLong, TooSmall, NotLoaded}
+use Rattle.dali_run.specs.Durable.{TaskIsDurable}
 use Rattle.dali_run.specs.Ends.{Course, HasEnded, LastLine}
-use Rattle.dali_run.specs.Headline.{Kept}
+use Rattle.dali_run.specs.Headline.{Kept, transactions_in}
 use Rattle.dali_run.specs.Survives.{IsOwn, IsHonest, Survives}
 use Rattle.dali_store.specs.declared.store.Store.{Ghosts}
 
@@ -43,7 +43,10 @@ module _ {V : Type 0} (g : Ghosts V) where
         → Survives g c ended.mid ended.count base (meaning words) status ended.ended
     pub headline :
         (base : List Record) → IsOwn g base c.store
-        → Kept g c ended.mid ended.count (committed base) (meaning words) status ended.ended
+        → Kept g c ended.mid ended.count (transactions_in base) (meaning words) status ended.ended
+    pub durable :
+        (base : List Record) → IsOwn g base c.store
+        → TaskIsDurable g c ended.mid ended.count (transactions_in base) (meaning words) status ended.ended
 
 pub record Refuses {V : Type 0} (c : Course V) (number : ℕ) : Type 0 where
   pub is_number : number ≡ number_of OutOfMemory

@@ -13,7 +13,7 @@
 --     IsLeft old new           what a crash at any moment leaves, and what else is so whatever is answered
 --     IsFresh                  a core that was just made: no operation, transaction or lock, and a vault that runs
 --     BeginsRun                a run begins with it, over the log of these files or that with the record of the restart
-use Rattle.std.specs.Prelude.{◌≡◌, ◌⊎◌, ◌≤◌, ◌<◌, ℕ, List, [], ◌∷◌, Option, Some, IfSome, is_some, drop, length, map}
+use Rattle.std.specs.Prelude.{◌≡◌, ◌⊎◌, ◌≤◌, ◌<◌, ℕ, Bool, List, [], ◌∷◌, Option, Some, IfSome, is_some, drop, length, map}
 use Rattle.dali_geometry.specs.Sizes.{Sizes}
 use Rattle.dali_record.specs.declared.records.Record.{Record}
 use Rattle.dali_record.specs.declared.records.Record.TheVariants.{Restarted}

@@ -43,3 +43,5 @@ mod Made
 mod Going
 mod Shown
 mod Verifying
+pub mod Durable
+pub mod Acknowledged

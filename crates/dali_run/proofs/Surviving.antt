@@ -94,7 +94,7 @@ begins_none L = (L, refl)
 pub begins_then : (a b c : List Record) → BeginsWith a b → BeginsWith b c → BeginsWith a c
 begins_then a b c one two = (one.0 ++ two.0, two.1 ∙ ap (λ (l : List Record). l ++ two.0) one.1 ∙ append_assoc a one.0 two.0)
 
-front_of : (n k : ℕ) (L : List Record) → n ≤ k → BeginsWith (take n L) (take k L)
+pub front_of : (n k : ℕ) (L : List Record) → n ≤ k → BeginsWith (take n L) (take k L)
 front_of zero k L le = (take k L, refl)
 front_of (suc n) zero L le = absurd (omega (arith, le))
 front_of (suc n) (suc k) [] le = ([], refl)
@@ -107,7 +107,7 @@ pub grown_more : (p q : Point) (base : List Record) → base ≡ take (stable p.
 grown_more p q base flushed records more =
     subst (λ (l : List Record). BeginsWith l (take (stable q.core) q.log)) (records ∙ sym flushed) (front_of (stable p.core) (stable q.core) q.log more)
 
-goes_on_from : (L M : List Record) → GoesOnFrom L M → BeginsWith L M
+pub goes_on_from : (L M : List Record) → GoesOnFrom L M → BeginsWith L M
 goes_on_from L M (inl same) = ([], same ∙ sym (append-nil L))
 goes_on_from L M (inr closed) = (closing L ∷ [], closed)
 
@@ -203,7 +203,8 @@ module _ {V : Type 0} (g : Ghosts V) where
 
   -- such a store tells its contents
   pub own_tells : (Safe : Disk → Type 0) (base : List Record) (p : Program V) → IsAPoint g Safe base p → told_in g (store_of p) ≡ None → ⊥
-  own_tells Safe base p a none = absurd (cc (own_store Safe base p a).0 none)
+  own_tells Safe base p a none =
+      let no : false ≡ true = ap is_some (sym none) ∙ (own_store Safe base p a).0 in absurd (cc no)
 
   pub own_same : (base : List Record) (a b : V) → a ≡ b → IsOwn g base a → IsOwn g base b
   own_same base a b same own = subst (IsOwn g base) same own
@@ -383,7 +384,7 @@ none_missed (w ∷ ws) zero g there = by_same (loaded w) g there refl
     by_same h k same none = subst (λ (o : Option RegionState). IfSome o (λ (j : RegionState). j.missed ≡ false)) same none
 none_missed (w ∷ ws) (suc r) g there = none_missed ws r g there
 
-first_holds : (s : Sizes) → AreInRange s → (may : Disk → Type 0) (c : Disk) → IsFormattedBy may (first_body s) c → HasLog [] c
+pub first_holds : (s : Sizes) → AreInRange s → (may : Disk → Type 0) (c : Disk) → IsFormattedBy may (first_body s) c → HasLog [] c
 first_holds s range may c is =
     crash_holds start ((first_record s ∷ []) ∷ []) (start_point start) there.0 [] c there.1 there.2 (inl refl) history escapes (begins_none _)
   where

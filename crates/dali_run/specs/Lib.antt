@@ -31,3 +31,4 @@ pub mod Told
 pub mod Unpoked
 pub mod Chain
 pub mod Shown
+pub mod Durable

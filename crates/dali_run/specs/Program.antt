@@ -56,6 +56,8 @@ fused g = record {
   faults = faults_in g;
   lets_pass = passes_of;
   cuts = λ f. g.cuts (inner f);
+  droppable = λ f. g.droppable (inner f);
+  dropped_to = λ f. g.dropped_to (inner f);
 }
 
 abbrev pub PlacesIn : {V : Type 0} → Ghosts V → Core (Fuse V) → Type 0

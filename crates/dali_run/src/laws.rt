@@ -2,6 +2,7 @@
 ghost use Rattle.std.specs.Prelude.{ℕ, Bool, List};
 ghost use Rattle.dali_record.specs.declared.records.Record.{Record};
 ghost use Rattle.dali_run.specs.Complete.{GeneratorFaultsRise, RunsComplete, StoreFaultsRise};
+ghost use Rattle.dali_run.specs.Durable.{AcknowledgedStay};
 ghost use Rattle.dali_run.specs.Ends.{Course, HasEnded};
 ghost use Rattle.dali_run.specs.Headline.{AcknowledgedSurvive, WorkedLinesAcknowledge};
 ghost use Rattle.dali_run.specs.Honest.{CoresAreHonest, EndsTellRounds, RoundsAreHonest, RunsAreHonest};
@@ -16,28 +17,42 @@ use dali_store::Store;
 
 /// The headline: no commit that was answered ok is lost, unless damage reached it, and a restart gives just what the others leave.
 /// Take a run of `run` and a state of it. Whatever a crash then leaves of the store, the log of these files has the commit of each
-/// transaction for which a line `commit ok` was told up to there. It has the commits in base too, the records which every crash of
-/// the handed-in store leaves. Each of them survives, or a chain of logged reads or undone changes links it to a region that failed
-/// its audit, and not both. Each restart of the files, however many were stopped before, gives exactly the records of the survivors,
-/// replayed one after another in commit order with the answers that they got. It reports just the transactions that were rolled back
-/// and those that were deleted, of the last epoch that has a record. So does a restart of the run itself, in memory and by its lines,
-/// and so do restarts of the store that comes back, with every status. It is asked that the handed-in store tells its files, and
-/// that a crash leaves of it only files of which a restart finds a history, or no database. All this is said of each of the files
-/// that a crash may leave by itself, if no damage escapes from them, as without stray writes. Where the memory was given up before,
-/// none may have escaped from the files that were kept: those that a `crash` chose, or that `size`, `open` and `restart` went on
-/// from. Within `size`, `open` and `restart`, and where one of them failed, it is asked of files that a crash might have left before
-/// it; or else of the files as they read there, too. A state is one between two commands. What was told before a command is kept at
+/// transaction for which a line `commit ok` was told up to there, and of its calls just those that its client was told of since its
+/// begin, with the answers that it was told. It has the commits in base too, the records which every crash of the handed-in store
+/// leaves. Each of them survives, or a chain of logged reads or undone changes links it to a region that failed its audit, and not
+/// both. Each restart of the files, however many were stopped before, gives exactly the records of the survivors, replayed one
+/// after another in commit order with the answers that they got. It reports just the transactions that were rolled back and those
+/// that were deleted, of the last epoch that has a record. So does a restart of the run itself, in memory and by its lines, and so
+/// do restarts of the store that comes back, with every status. It is asked that the handed-in store tells its files, and that a
+/// crash leaves of it only files of which a restart finds a history, or no database. All this is said of each of the files that a
+/// crash may leave by itself, if no damage escapes from them, as without stray writes. Where the memory was given up before, none
+/// may have escaped from the files that were kept: those that a `crash` chose, or that `size`, `open` and `restart` went on from.
+/// Within `size`, `open` and `restart`, and where one of them failed, it is asked of files that a crash might have left before it;
+/// or else of the files as they read there, too. A state is one between two commands. What was told before a command is kept at
 /// each moment within it too. Within a round, of which a single `poke`, `audit` or `checkpoint` is one, the files came from a point
-/// between its begin and its end, and of damage is asked what memory was there. So it is of `gen`: at each moment within its `size`,
-/// its round, its `crash` and its `restart`, and of the store that comes back. It writes no lines of its round; the answers that its
-/// clients got count. Nobody pokes in it, so of damage nothing is asked.
+/// between its begin and its end, and of damage is asked what memory was there. Their log is a front of the log at the round's end,
+/// whose records the round's lines tell. So it is of `gen`: at each moment within its `size`, its round, its `crash` and its
+/// `restart`, and of the store that comes back. It writes no lines of its round; the answers that its clients got count. Nobody
+/// pokes in it, so of damage nothing is asked.
 pub fn acknowledged_commits_survive<V: Store>()
     ensures { AcknowledgedSurvive V.Store }
 {}
 
+/// What was told as `commit ok` is durable, with damage too. Take a run of `run` over a store as the headline asks for. At each state
+/// and at each moment within a command, also within a round and within one that fails, the log of whatever a crash then leaves has
+/// the commit of each transaction for which a line `commit ok` was told before, and of its calls just those that its client was told
+/// of, with these answers. It survives there, or a chain of logged reads or undone changes links it to a region that failed its
+/// audit, and not both. So it is of the store that comes back, with every status. Of the stray writes to the memory that is there
+/// nothing is asked. Of memory that a `crash`, a `restart`, an `open` or a `size` gave up before, or gives up, it is asked that no
+/// audit of it had passed a region whose stray writes cancelled: else the image that a checkpoint of it made current may not be one
+/// that a restart finds.
+pub fn acknowledged_commits_stay<V: Store>()
+    ensures { AcknowledgedStay V.Store }
+{}
+
 /// What lines acknowledge, in an example (`dali_transcripts::laws::a_conflict`): of two clients that insert one key the first dies,
 /// and the second is refused, begins again and commits. The lines of these two acknowledge just the transaction of that second try,
-/// and the log of the example has its commit and no other.
+/// with its insert, and the log of the example has committed it and no other, with just that call.
 pub fn worked_lines_acknowledge_their_commit()
     ensures { WorkedLinesAcknowledge }
 {}

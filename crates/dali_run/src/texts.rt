@@ -171,7 +171,7 @@ fn write_in_line<K: Sink>(sink: &mut K, number: u64, text: &[u8]) -> Result<(), 
     write_all(sink, b"\n")
 }
 
-/// Writes the lines of a command.
+/// Writes the lines of a command to standard output.
 pub fn write_whole<K: Sink>(sink: &mut K, text: &[u8]) -> Result<(), Halt>
     ensures all { OnOk result (Appends (K.taken sink.old) text.now (K.taken sink.new)) }
     ensures some { IfErr result (λ halt. (halt ≡ WriteFault) × AppendsSome (K.taken sink.old) text.now (K.taken sink.new) × Rose (K.faults sink.old) (K.faults sink.new)) }

@@ -15,12 +15,12 @@ use Rattle.dali_record.proofs.Moves.{over_next_is}
 use Rattle.dali_record.proofs.Survivors.{commit_is}
 use Rattle.dali_served.specs.Served.{Once}
 
-abbrev IsPast : TxnState → Type 0
+abbrev pub IsPast : TxnState → Type 0
 IsPast (Committed ps) = Unit {0}
 IsPast Over = Unit {0}
 IsPast x = ⊥
 
-abbrev StaysPast : Option TxnState → Type 0
+abbrev pub StaysPast : Option TxnState → Type 0
 StaysPast None = Unit {0}
 StaysPast (Some x) = IsPast x
 
@@ -36,7 +36,7 @@ freed_past : (b : Block) (ps : List Pending) → StaysPast (freed b ps)
 freed_past b [] = tt
 freed_past b (p ∷ ps) = allowed_past (is_of (freeing_op p.undo) p b) (Some (Committed ps)) tt
 
-past_stays : (s : Sizes) (t : ℕ) (x : TxnState) (r : Record) → IsPast x → StaysPast (txn_step s t x r)
+pub past_stays : (s : Sizes) (t : ℕ) (x : TxnState) (r : Record) → IsPast x → StaysPast (txn_step s t x r)
 past_stays s t Unbegun r h = absurd h
 past_stays s t (Active w) r h = absurd h
 past_stays s t (Committed ps) (Begin u) h = allowed_past (not (u == t)) (Some (Committed ps)) tt
@@ -60,7 +60,7 @@ not_again s t Over h = let same = eq-eqb t t refl in rw same refl
 level_past : (b : Bool) (ps : List Pending) → StaysPast (allowed b (Some (Committed ps)))
 level_past b ps = allowed_past b (Some (Committed ps)) tt
 
-commits_past : (s : Sizes) (t : ℕ) (x : TxnState) → StaysPast (txn_step s t x (Commit t))
+pub commits_past : (s : Sizes) (t : ℕ) (x : TxnState) → StaysPast (txn_step s t x (Commit t))
 commits_past s t Unbegun = let same = eq-eqb t t refl in rw same tt
 commits_past s t (Active w) = let same = eq-eqb t t refl in rw same (level_past (is_level w) (dead_of w.undos))
 commits_past s t (Committed ps) = past_stays s t (Committed ps) (Commit t) tt

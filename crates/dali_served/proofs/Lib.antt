@@ -22,3 +22,6 @@ pub mod Counted
 pub mod Roomy
 pub mod Free
 pub mod Generated
+pub mod Spans
+pub mod OwnTxns
+pub mod Oks

@@ -3,7 +3,7 @@
 --     owner_in ps t        whom t belongs to
 --     owned_by c ps        what belongs to c
 use Rattle.std.proofs.Common.{◌≡◌, ℕ, suc, ◌+◌, ◌==◌, Bool, true, false, cond, List, [], ◌∷◌, length, map, Some, refl, sym, ◌∙◌, ap, subst, arith, ⊎_elim}
-use Rattle.std.specs.Prelude.{◌⊎◌, Contains, filter, if◌then◌else◌, slice_get}
+use Rattle.std.specs.Prelude.{Contains, filter, if◌then◌else◌, slice_get}
 use Rattle.std.specs.List.{range_with_len}
 use Rattle.std.proofs.lemmas.Bool.{eqb-true, eq-eqb, ne_eqb}
 use Rattle.dali_lists.proofs.Members.{contains_first, contains_more, contains_cases, contains_none}

@@ -2,6 +2,7 @@
 ghost use Rattle.dali_served.specs.Apart.{NoneGivesWay};
 ghost use Rattle.dali_served.specs.Free.{RoundsAreServed};
 ghost use Rattle.dali_served.specs.Generates.{GeneratedAreServed, SummariesFollow};
+ghost use Rattle.dali_served.specs.Oks.{OksStand};
 ghost use Rattle.dali_served.specs.Served.{ServedRounds};
 ghost use Rattle.dali_served.specs.Steady.{NoneIsClaimed, OwnIsSteady, LogIsSteady};
 
@@ -50,4 +51,11 @@ pub fn a_free_round_is_served()
 /// one says that the log is full, or the engine is stopped in the end.
 pub fn a_generated_round_is_served()
     ensures { GeneratedAreServed }
+{}
+
+/// What the lines of a round acknowledge stands in its log. Take a transaction of which a client of a round that ended with Done was
+/// told `commit ok`. Where the round's log is legal it has the Commit of that transaction, which is flushed, and before it just the
+/// calls that the client was told of since the transaction's begin, with their answers.
+pub fn what_lines_acknowledge_is_in_the_log()
+    ensures { OksStand }
 {}

@@ -59,21 +59,21 @@ impl Operation {
         }
     }
 
-    /// Its transaction.
+    /// The transaction of the operation.
     pub fn txn(&self) -> u64
         ensures { result ≡ self.now.txn }
     {
         self.txn
     }
 
-    /// Its block.
+    /// The block of the operation: what the log keeps of it.
     pub fn block(&self) -> &Block
         ensures { result.now ≡ self.now.block }
     {
         &self.block
     }
 
-    /// Whether all its words are written.
+    /// Whether all words of the operation are written.
     pub fn is_written(&self) -> bool
         ensures { result ≡ all_written (Some self.now) }
     {
@@ -119,7 +119,7 @@ impl Model for OpenOperation {
 }
 
 impl OpenOperation {
-    /// None.
+    /// No operation is open.
     pub fn none() -> Self
         ensures { result ≡ None }
     {
@@ -129,14 +129,14 @@ impl OpenOperation {
         }
     }
 
-    /// Whether one is open.
+    /// Whether an operation is open.
     pub fn is_open(&self) -> bool
         ensures { result ≡ is_some self.now }
     {
         self.is_open
     }
 
-    /// The one that is open.
+    /// The operation that is open.
     pub fn get(&self) -> Option<&Operation>
         ensures some { IfSome result (λ o. self.now ≡ Some o.now) }
         ensures none { IsNone result → self.now ≡ None }
@@ -190,7 +190,7 @@ impl OpenOperation {
         self.operation.update(region)
     }
 
-    /// None is open any more.
+    /// Closes the operation that is open on a region: none is open any more.
     pub fn close(&mut self)
         ensures { self.new ≡ None }
     {

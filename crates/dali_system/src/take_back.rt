@@ -55,14 +55,14 @@ impl TakeBack {
         }
     }
 
-    /// Its transaction.
+    /// The transaction that is taken back.
     pub fn txn(&self) -> u64
         ensures { result ≡ self.now.txn }
     {
         self.txn
     }
 
-    /// What it needs next.
+    /// What the taking back needs next: a region, or nothing more.
     pub fn wants(&self) -> Want
         ensures { result ≡ want_of self.now.next }
     {

@@ -1,6 +1,6 @@
 -- What the guards of an end look at, and what it means.
-use Rattle.std.proofs.Common.{◌≡◌, ℕ, ◌<◌, Bool, true, false, ◌&&◌, List, [], ◌∷◌, Option, Some, None, IfSome, refl, ap, sym, subst, ◌∙◌, length, get_or, slice_get}
-use Rattle.std.specs.Prelude.{if◌then◌else◌}
+use Rattle.std.proofs.Common.{◌≡◌, ℕ, ◌<◌, Bool, true, false, ◌&&◌, List, [], ◌∷◌, Option, Some, None, Result, Ok, Err, IfSome, refl, ap, sym, subst, ◌∙◌, length, get_or, slice_get}
+use Rattle.std.specs.Prelude.{if◌then◌else◌, IfErr, IsErrOf}
 use Rattle.std.specs.List.{AllByRecursion, list_all}
 use Rattle.std.specs.FinMap.{get}
 use Rattle.std.proofs.lemmas.Bool.{and_parts}
@@ -18,6 +18,8 @@ use Rattle.dali_runs.specs.Facts.Undos.{MayBePerformed}
 use Rattle.dali_system.specs.Rows.{AreRows}
 use Rattle.dali_calls.proofs.Rows.{undos_in}
 use Rattle.dali_clean.specs.Cleaned.{AreDead}
+use Rattle.dali_transactions.specs.declared.error.AbortError.{AbortError}
+use Rattle.dali_transactions.specs.declared.error.AbortError.TheVariants.{OutOfMemory, Unfit}
 use Rattle.dali_transactions.specs.Guards.{is_covered, is_releasable, is_releasable_on}
 
 -- ---- holds
@@ -31,6 +33,11 @@ dead_releasable (Some k) h = h
 
 pub clash : {b : Bool} → b ≡ false → b ≡ true → ⊥
 clash e f = cc
+
+-- who is refused for want of memory alone isn't told that it fits nothing
+pub never_unfit : (r : Result (Unit {0}) AbortError) → IfErr r (λ e. e ≡ OutOfMemory) → IsErrOf r Unfit → ⊥
+never_unfit (Ok done) memory is = absurd (cc)
+never_unfit (Err e) memory is = let same : e ≡ Unfit = cc in let no : Unfit ≡ OutOfMemory = sym same ∙ memory in absurd (cc)
 
 -- the region that was looked at
 pub released_here : (gs : List RegionState) (r : ℕ) (d e : RegionState) (o : Option Hold) (b : Bool) → r < length gs → o ≡ (get_or gs r d).hold → b ≡ is_releasable o → b ≡ true → IfSome (get_or gs r e).hold (λ h. h.dead ≡ true)

@@ -1,5 +1,5 @@
 //! A transaction of a core is taken back.
-ghost use Rattle.std.specs.Prelude.{◌≡◌, [], ◌∷◌, Some, None, Err, IfSome, OnOk, OnErr, IfErr};
+ghost use Rattle.std.specs.Prelude.{◌≡◌, [], ◌∷◌, Some, None, Err, IfSome, OnOk, OnErr, IfErr, IsErrOf};
 ghost use Rattle.dali_record.specs.declared.records.Record.TheVariants.{Ended};
 ghost use Rattle.dali_att.specs.Table.{undos_at};
 ghost use Rattle.dali_att.specs.declared.state.State.TheVariants.{Live};
@@ -10,7 +10,7 @@ ghost use Rattle.dali_calls.specs.Others.{PromisesStay, IsGone};
 ghost use Rattle.dali_calls.specs.Single.Ending.{IsBackOf};
 ghost use Rattle.dali_clean.specs.Others.{OthersStay};
 ghost use Rattle.dali_core.specs.Cores.{IsWholeCore};
-ghost use Rattle.dali_transactions.specs.declared.error.AbortError.TheVariants.{Stopped, OutOfMemory};
+ghost use Rattle.dali_transactions.specs.declared.error.AbortError.TheVariants.{Stopped, OutOfMemory, Unfit};
 ghost use Rattle.dali_transactions.specs.Stands.{IsUp};
 ghost use Rattle.dali_transactions.specs.Ended.{Comes};
 ghost use Rattle.dali_transactions.specs.Left.{HoldsStay, IsRunning, Left};
@@ -43,10 +43,10 @@ fn abort_running<V: Store>(core: &mut Core<V>, txn: u64) -> Result<(), AbortErro
 /// the region of an undo, the operation in which that client died is taken back first, and its transaction stays dead. No call
 /// of the store is made.
 ///
-/// `Stopped` exactly where the engine is stopped, with that cause, and nothing changes then. Else `OutOfMemory` where memory
-/// for a record is refused: what was taken back stays so, the transaction is live, and it may be asked for again. It asks for
-/// nothing: where the transaction isn't live, or regions and system haven't what each point of a run has of a live one, it is
-/// refused as where memory is wanting.
+/// `Stopped` exactly where the engine is stopped, with that cause, and nothing changes then. It asks for nothing: else `Unfit`
+/// exactly where the transaction isn't live, or regions and system haven't what each point of a run has of a live one, and
+/// nothing changes then either. `OutOfMemory` where memory for a record is refused: what was taken back stays so, the
+/// transaction is live, and it may be asked for again.
 ///
 /// On Ok the transaction has no row, no lock and no memory promised any more. Behind the log stand its takings back, and then
 /// its end, and nothing else. Every other transaction keeps its row, its locks and the memory that it was promised; a dead one
@@ -59,7 +59,10 @@ pub fn abort<V: Store>(core: &mut Core<V>, txn: u64) -> Result<(), AbortError>
     ensures released { OnOk result (promised_to core.new.system.promised txn ≡ 0) }
     ensures lives { OnErr result (state_of core.new.system.state txn ≡ state_of core.old.system.state txn) }
     ensures stopped { IfSome core.old.system.state.stop (λ cause. (result ≡ Err (Stopped cause)) × (core.new ≡ core.old)) }
-    ensures memory { core.old.system.state.stop ≡ None → IfErr result (λ e. e ≡ OutOfMemory) }
+    ensures unfit { IsErrOf result Unfit → MayEnd core.old.regions.items core.old.system.state txn → ⊥ }
+    ensures unchanged { IsErrOf result Unfit → core.new ≡ core.old }
+    ensures memory { core.old.system.state.stop ≡ None → MayEnd core.old.regions.items core.old.system.state txn → IfErr result (λ e. e ≡ OutOfMemory) }
+    ensures other { core.old.system.state.stop ≡ None → (MayEnd core.old.regions.items core.old.system.state txn → ⊥) → result ≡ Err Unfit }
     ensures vault { core.new.vault ≡ core.old.vault }
     ensures others { OthersStay core.old.regions.items core.old.system.state txn core.new.regions.items core.new.system.state }
     ensures in_the_way { IsUp V.Store core.old.regions.items core.old.system.state core.old.vault → HoldsStay (undos_at core.old.system.state.table txn) core.old.regions.items core.new.regions.items }
@@ -71,7 +74,7 @@ pub fn abort<V: Store>(core: &mut Core<V>, txn: u64) -> Result<(), AbortError>
         return Err(AbortError::Stopped { cause });
     }
     if !may_end(&core.regions, &core.system, txn) {
-        return Err(AbortError::OutOfMemory);
+        return Err(AbortError::Unfit);
     }
     abort_running(core, txn)
 }

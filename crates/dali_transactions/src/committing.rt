@@ -17,7 +17,7 @@ ghost use Rattle.dali_calls.specs.Single.Settling.{MayFree, IsPromised, settle_r
 ghost use Rattle.dali_clean.specs.Others.{OthersStay};
 ghost use Rattle.dali_core.specs.Cores.{IsWholeCore, IsNoShorter};
 ghost use Rattle.dali_core.specs.Moments.{FlushLeaves, Within};
-ghost use Rattle.dali_transactions.specs.declared.error.CommitError.TheVariants.{Stopped, OutOfMemory, Fault};
+ghost use Rattle.dali_transactions.specs.declared.error.CommitError.TheVariants.{Stopped, OutOfMemory, Unfit, Fault};
 ghost use Rattle.dali_transactions.specs.Stands.{IsUp, IsBetween};
 ghost use Rattle.dali_transactions.specs.Left.{HoldsStay, Settled};
 ghost use Rattle.dali_transactions.specs.Committed.{CommitGoes, CommitFails};
@@ -58,13 +58,14 @@ fn settle_core<V: Store>(core: &mut Core<V>, txn: u64, removals: &[Pending])
 }
 
 /// Commits a live transaction, makes its commit durable, frees for good what it removed, and logs its end. All memory that
-/// this takes is taken first, so behind its flush each answer is Ok. Where a dead client has latched the region of a removal, the operation in which that client died
-/// is taken back first, and its transaction stays dead. It makes four calls of the store.
+/// this takes is taken first, so behind its flush each answer is Ok. Where a dead client has latched the region of a removal,
+/// the operation in which that client died is taken back first, and its transaction stays dead. It makes four calls of the
+/// store.
 ///
-/// `Stopped` exactly where the engine is stopped, with that cause, or the vault is (cause: the store), and `OutOfMemory`
-/// where memory is refused: nothing has changed then. `Fault` only where the store's count of faults rose: the commit
-/// is logged and isn't flushed, and vault and engine stop. It asks for nothing: where the transaction isn't live, or the core
-/// hasn't what each point of a run has of a live one, it is refused as where memory is wanting.
+/// `Stopped` exactly where the engine is stopped, with that cause, or the vault is (cause: the store). It asks for nothing: else
+/// `Unfit` exactly where the transaction isn't live, or the core hasn't what each point of a run has of a live one; and
+/// `OutOfMemory` where memory is refused. Nothing has changed then. `Fault` only where the store's count of faults rose: the
+/// commit is logged and isn't flushed, and vault and engine stop.
 ///
 /// On Ok the commit is flushed, so each crash leaves it, and the transaction has no row, no lock and no memory promised any
 /// more. Behind the log stand its commit, its solos in the order of its removals, and its end, and nothing else. Every other
@@ -77,7 +78,10 @@ pub fn commit<V: Store>(core: &mut Core<V>, alloc: Global, txn: u64) -> Result<(
     ensures released { OnOk result (promised_to core.new.system.promised txn ≡ 0) }
     ensures stopped { IfSome core.old.system.state.stop (λ cause. result ≡ Err (Stopped cause)) }
     ensures vault_stopped { core.old.system.state.stop ≡ None → core.old.vault.stopped ≡ true → result ≡ Err (Stopped ByStore) }
-    ensures memory { core.old.system.state.stop ≡ None → core.old.vault.stopped ≡ false → IfErr result (λ e. (e ≡ Fault → ⊥) → e ≡ OutOfMemory) }
+    ensures unfit { IsErrOf result Unfit → MayEnd core.old.regions.items core.old.system.state txn → MayFlush core.old.vault → ⊥ }
+    ensures memory { core.old.system.state.stop ≡ None → core.old.vault.stopped ≡ false → IfErr result (λ e. (e ≡ Fault → ⊥) → (e ≡ Unfit → ⊥) → e ≡ OutOfMemory) }
+    ensures other { core.old.system.state.stop ≡ None → core.old.vault.stopped ≡ false
+        → (MayEnd core.old.regions.items core.old.system.state txn × MayFlush core.old.vault → ⊥) → result ≡ Err Unfit }
     ensures fault { IsErrOf result Fault → CommitFails V.Store core.old.regions.items core.old.system.state core.old.vault txn core.new.system.state core.new.vault }
     ensures faulted { IsErrOf result Fault → Rose (V.faults core.old.vault.store) (V.faults core.new.vault.store) × (core.new.vault.stopped ≡ true) }
     ensures kept { IsBetween V.Store core.old.regions.items core.old.system.state core.old.vault txn → OnOk result (V.faults core.new.vault.store ≡ V.faults core.old.vault.store) }
@@ -86,7 +90,7 @@ pub fn commit<V: Store>(core: &mut Core<V>, alloc: Global, txn: u64) -> Result<(
     ensures tells { is_some (V.told core.new.vault.store) ≡ is_some (V.told core.old.vault.store) }
     ensures unchanged { IfErr result (λ e. (e ≡ Fault → ⊥) → core.new ≡ core.old) }
     ensures unflushed { OnErr result (core.new.vault.flushed ≡ core.old.vault.flushed) }
-    ensures any_moment { core.old.vault.stopped ≡ false → (IsErrOf result OutOfMemory → ⊥) → core.old.system.state.stop ≡ None
+    ensures any_moment { core.old.vault.stopped ≡ false → (IsErrOf result OutOfMemory → ⊥) → (IsErrOf result Unfit → ⊥) → core.old.system.state.stop ≡ None
         → Within V.told V.moment V.left_since core.old.vault core.new.vault (FlushLeaves V.may_leave (commit_logged core.old.system.state txn) core.old.vault) }
     ensures others { OthersStay core.old.regions.items core.old.system.state txn core.new.regions.items core.new.system.state }
     ensures in_the_way { IsBetween V.Store core.old.regions.items core.old.system.state core.old.vault txn → HoldsStay (dead_of (undos_at core.old.system.state.table txn)) core.old.regions.items core.new.regions.items }
@@ -103,7 +107,7 @@ pub fn commit<V: Store>(core: &mut Core<V>, alloc: Global, txn: u64) -> Result<(
         return Err(CommitError::Stopped { cause });
     }
     if !may_commit(core, txn) {
-        return Err(CommitError::OutOfMemory);
+        return Err(CommitError::Unfit);
     }
     let removals = match dali_calls::single::commit(alloc, &mut core.system, txn) {
         Ok(removals) => removals,

@@ -15,6 +15,9 @@ pub enum CommitError {
     /// Memory was wanted and refused. Nothing has changed.
     #[error("out of memory")]
     OutOfMemory,
+    /// The transaction isn't in the state that is asked for, or the core isn't one that a run leaves. Nothing has changed.
+    #[error("no such transaction")]
+    Unfit,
     /// A call of the store failed. The commit is logged and isn't flushed, and the engine is stopped.
     #[error("store fault")]
     Fault,
@@ -40,6 +43,9 @@ pub enum AbortError {
     /// Memory was wanted and refused. The transaction is live, and what was taken back stays so.
     #[error("out of memory")]
     OutOfMemory,
+    /// The transaction isn't live, or the core isn't one that a run leaves. Nothing has changed.
+    #[error("no live transaction")]
+    Unfit,
 }
 
 // Why the record of a taking back or of an end is refused.

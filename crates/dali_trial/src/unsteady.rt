@@ -1,6 +1,4 @@
 //! A store that reads otherwise from a call on.
-ghost use Rattle.std.specs.Prelude.{None};
-
 use dali_store::{FileName, Store, StoreFault};
 
 /// Passes every call on. From one of the reads of the log on, a byte of the log reads as one more than it is. It doesn't tell what
@@ -40,6 +38,8 @@ fn change(bytes: &mut [u8], at: u64, place: u64) {
 }
 
 impl<V: Store> Store for Unsteady<V> {
+    ghost use Rattle.std.specs.Prelude.{⊤, None, refl};
+
     ghost told = { λ u. None };
 
     ghost may_leave = { λ u c. ⊤ };
@@ -53,6 +53,10 @@ impl<V: Store> Store for Unsteady<V> {
     ghost lets_pass = { λ u. None };
 
     ghost cuts = { λ u choice. None };
+
+    ghost droppable = { λ u below. 0 };
+
+    ghost dropped_to = { λ u. 0 };
 
     ghost reads_now = { λ u. tt };
 
@@ -93,5 +97,13 @@ impl<V: Store> Store for Unsteady<V> {
 
     fn cut(&mut self, choice: u32) -> Result<(), StoreFault> {
         self.inner.cut(choice)
+    }
+
+    fn drop_log(&mut self, _below: u64) -> Result<u64, StoreFault> {
+        Ok(0) // It drops nothing.
+    }
+
+    fn first_kept(&mut self) -> Result<u64, StoreFault> {
+        Ok(0)
     }
 }

@@ -60,7 +60,7 @@ impl Cleaning {
         })
     }
 
-    /// Its transaction.
+    /// The dead transaction that is cleaned up.
     pub fn txn(&self) -> u64
         ensures { result ≡ self.now.txn }
     {

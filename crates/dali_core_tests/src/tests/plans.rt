@@ -1,8 +1,7 @@
 //! A plan whose words are written one by one, as by who gives up the region between two of them.
-ghost use Rattle.std.specs.Prelude.{◌≡◌, None, IfSome, IsSomeAnd};
+ghost use Rattle.std.specs.Prelude.{IfSome, IsSomeAnd};
 ghost use Rattle.dali_runs.specs.Regions.{IsOpen};
 ghost use Rattle.dali_system.specs.UnderWay.{OneIsUnderWay};
-ghost use Rattle.dali_calls.specs.Plans.{with_operation};
 
 use anyhow::{Context, Result};
 use dali_calls::Plan;
@@ -22,8 +21,7 @@ type Seen = (bool, u32, bool);
 #[tactic(auto, using(dali_system::proofs::UnderWays::written_is_open))]
 fn write_words(plan: &mut Plan, region: &mut Region) -> Option<u32>
     requires { OneIsUnderWay plan.old.operation region.old }
-    ensures rest { plan.new ≡ with_operation plan.old plan.new.operation }
-    ensures open { IfSome result (λ _. IsSomeAnd plan.new.operation (λ o. IsOpen region.new o.txn o.block)) }
+    ensures { IfSome result (λ _. IsSomeAnd plan.new.operation (λ o. IsOpen region.new o.txn o.block)) }
 {
     for words in 0..9 {
         if plan.is_written() {

@@ -1,4 +1,3 @@
 //! What no clause says of a core over a store.
-mod copies;
 mod cores;
 mod vaults;

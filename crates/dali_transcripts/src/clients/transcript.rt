@@ -50,7 +50,7 @@ impl Transcript {
         Transcript { client, ..self }
     }
 
-    /// Its lines in order.
+    /// The lines that the client said, in order.
     pub fn lines(&self) -> &[Line]
         ensures { result.now ≡ self.now.lines }
     {
@@ -65,7 +65,7 @@ impl Transcript {
         &self.receipts
     }
 
-    /// One more line.
+    /// Adds a line that the client says.
     pub fn say(&mut self, line: Line) -> Result<(), OutOfMemory>
         ensures ok { OnOk result (self.new ≡ said self.old (line ∷ [])) }
         ensures err { OnErr result (self.new ≡ self.old) }

@@ -37,6 +37,7 @@ fn take_back<V: Store>(core: &mut Core<V>, txn: u64) -> Result<Option<Cause>, Ou
         Ok(()) => Ok(None),
         Err(AbortError::Stopped { cause }) => Ok(Some(cause)),
         Err(AbortError::OutOfMemory) => Err(OutOfMemory),
+        Err(AbortError::Unfit) => no_run(),
     }
 }
 

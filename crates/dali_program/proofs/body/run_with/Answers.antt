@@ -1,6 +1,7 @@
 use Rattle.std.proofs.Common.{List, Global, map, string_bytes, subst}
 use Rattle.std.specs.Prelude.{String}
 use Rattle.dali_run.specs.Ends.{course}
+use Rattle.dali_run.proofs.Durable.{acknowledged_stay}
 use Rattle.dali_run.proofs.Keeping.{acknowledged_survive}
 use Rattle.dali_run.proofs.Survived.{runs_survive}
 use Rattle.dali_program.specs.Exits.{ExitsWith}
@@ -24,5 +25,8 @@ returns-in-Ok-clause-exits g c =
           _ _ c.run-status.result.0 base own ended honest;
       headline = λ base own.
           acknowledged_survive g.V.Store met.reads_now met.counts_now met.only_now
+          _ _ c.run-status.result.0 base own ended;
+      durable = λ base own.
+          acknowledged_stay g.V.Store met.reads_now met.counts_now met.only_now
           _ _ c.run-status.result.0 base own ended;
     }))

@@ -16,7 +16,7 @@ use Rattle.dali_system.specs.Promised.{Promised, promised_to}
 use Rattle.dali_calls.specs.Single.Settling.{MayFree, settle_room}
 use Rattle.dali_clean.specs.Others.{OthersStay}
 use Rattle.dali_core.proofs.Lengths.{same_length}
-use Rattle.dali_transactions.proofs.Guarding.{of_removals}
+use Rattle.dali_transactions.proofs.Guarding.{clash, of_removals}
 use Rattle.dali_transactions.proofs.Durable.{commit_fails, four_calls, faults_kept, up_committed, up_failed, may_taken, others_taken, commit_done, kept_at, calls_at, within_at, fault_only, commit_kept, holds_stand}
 use Rattle.dali_transactions.proofs.Wholes.{whole_logged, whole_committed, whole_over}
 use Rattle.dali_transactions.proofs.committing.commit.Goals as goal
@@ -47,7 +47,7 @@ returns-in-Err-flush-clause-fault g c =
     λ _. fails
 
 pub returns-in-Err-flush-clause-any_moment : goal.returns-in-Err-flush-clause-any_moment
-returns-in-Err-flush-clause-any_moment g c = λ runs none stop. within_at g.V.Store g.V.Store.moment g.V.Store.left_since c.args.core.now.vault c.flush.new.core.vault c.flush.new.core.vault c.commit.new.system.state (commit_logged c.args.core.now.system.state c.args.txn) refl c.in-Ok.ensures.logged (c.flush.ensures.any_moment runs)
+returns-in-Err-flush-clause-any_moment g c = λ runs none fits stop. within_at g.V.Store g.V.Store.moment g.V.Store.left_since c.args.core.now.vault c.flush.new.core.vault c.flush.new.core.vault c.commit.new.system.state (commit_logged c.args.core.now.system.state c.args.txn) refl c.in-Ok.ensures.logged (c.flush.ensures.any_moment runs)
 
 pub settle_core-requires-clause-whole : goal.settle_core-requires-clause-whole
 settle_core-requires-clause-whole g c =
@@ -100,7 +100,7 @@ pub returns-clause-calls : goal.returns-clause-calls
 returns-clause-calls g c = λ between. calls_at g.V.Store g.V.Store.lets_pass c.args.core.now.vault c.flush.new.core.vault c.settle_core.new.core.vault _ 4 c.settle_core.ensures.vault (four_calls g.V.Store c.args.core.now.regions.items c.args.core.now.system.state c.commit.new.system.state c.args.core.now.vault c.args.txn c.in-Ok.removals.items between c.in-Ok.ensures.ok) c.in-Ok-flush.ensures.calls
 
 pub returns-clause-any_moment : goal.returns-clause-any_moment
-returns-clause-any_moment g c = λ runs none stop. within_at g.V.Store g.V.Store.moment g.V.Store.left_since c.args.core.now.vault c.flush.new.core.vault c.settle_core.new.core.vault c.commit.new.system.state (commit_logged c.args.core.now.system.state c.args.txn) c.settle_core.ensures.vault c.in-Ok.ensures.logged (c.flush.ensures.any_moment runs)
+returns-clause-any_moment g c = λ runs none fits stop. within_at g.V.Store g.V.Store.moment g.V.Store.left_since c.args.core.now.vault c.flush.new.core.vault c.settle_core.new.core.vault c.commit.new.system.state (commit_logged c.args.core.now.system.state c.args.txn) c.settle_core.ensures.vault c.in-Ok.ensures.logged (c.flush.ensures.any_moment runs)
 
 pub returns-clause-others : goal.returns-clause-others
 returns-clause-others g c =
@@ -187,3 +187,15 @@ returns-in-Err-clause-files g c = same_length (g.V.Store.told c.args.core.now.va
 
 pub returns-clause-files : goal.returns-clause-files
 returns-clause-files g c = subst (λ v. IsNoShorter g.V.Store.told c.args.core.now.vault v) (sym c.settle_core.ensures.vault) c.flush.ensures.files
+
+pub returns-then-not-may_commit-clause-unfit : goal.returns-then-not-may_commit-clause-unfit
+returns-then-not-may_commit-clause-unfit g c = λ is may flush. clash c.if-not-may_commit.true (c.may_commit.ensures.always may flush)
+
+pub returns-clause-other : goal.returns-clause-other
+returns-clause-other g c = λ stop runs never. absurd (never (c.may_commit.ensures.is c.if-not-may_commit.false))
+
+pub returns-in-Err-clause-other : goal.returns-in-Err-clause-other
+returns-in-Err-clause-other g c = λ stop runs never. absurd (never (c.may_commit.ensures.is c.if-not-may_commit.false))
+
+pub returns-in-Err-flush-clause-other : goal.returns-in-Err-flush-clause-other
+returns-in-Err-flush-clause-other g c = λ stop runs never. absurd (never (c.may_commit.ensures.is c.if-not-may_commit.false))

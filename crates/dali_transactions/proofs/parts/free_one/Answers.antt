@@ -1,6 +1,5 @@
 use Rattle.std.specs.Prelude.{slice_set}
-use Rattle.std.proofs.Common.{[], ◌∷◌, subst, ◌∙◌, arith, ap, sym, refl}
-use Rattle.std.proofs.lemmas.List.{length-set}
+use Rattle.std.proofs.Common.{[], ◌∷◌, subst, ◌∙◌, ap}
 use Rattle.dali_calls.proofs.SingleLemmas.Flags.{freed_flag, left_flag}
 use Rattle.std.proofs.lemmas.Option.{slice_get-get_or, get_or_from_slice_get}
 use Rattle.dali_region.specs.State.{RegionState}

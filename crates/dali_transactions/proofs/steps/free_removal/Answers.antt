@@ -1,4 +1,5 @@
-use Rattle.std.proofs.Common.{◌≡◌, true, false, [], List, sym, subst}
+use Rattle.std.proofs.Common.{◌≡◌, true, false, [], List, sym, subst, ◌∙◌}
+use Rattle.std.proofs.lemmas.Option.{none-some}
 use Rattle.dali_region.specs.State.{RegionState}
 use Rattle.dali_transactions.specs.Guards.{MayFreeOn}
 use Rattle.dali_transactions.specs.Left.{none_of}
@@ -26,3 +27,21 @@ returns-then-not-may_free-clause-promised g c = λ may promised.
 
 pub returns-in-Err-clause-promised : goal.returns-in-Err-clause-promised
 returns-in-Err-clause-promised g c = λ may promised. absurd (let no : false ≡ true = c.in-Err.ensures.promised promised in cc)
+
+pub returns-in-Some-clause-left : goal.returns-in-Some-clause-left
+returns-in-Some-clause-left g c = comes_none g.V.Store c.args.txn none_of c.args.core.now.regions.items c.args.core.now.system.state c.args.core.now.vault
+
+pub returns-then-not-may_free-clause-unfit : goal.returns-then-not-may_free-clause-unfit
+returns-then-not-may_free-clause-unfit g c = λ is may.
+    clash c.if-not-may_free.true (c.may_free.ensures.always (subst (λ (rs : List RegionState). MayFreeOn rs c.args.core.now.system.state c.args.txn c.args.removal.now) (sym c.deref.ensures.value) may))
+
+pub returns-in-Ok-clause-other : goal.returns-in-Ok-clause-other
+returns-in-Ok-clause-other g c = λ runs never.
+    absurd (never (subst (λ (rs : List RegionState). MayFreeOn rs c.args.core.now.system.state c.args.txn c.args.removal.now) c.deref.ensures.value (c.may_free.ensures.is c.if-not-may_free.false)))
+
+pub returns-in-Err-clause-other : goal.returns-in-Err-clause-other
+returns-in-Err-clause-other g c = λ runs never.
+    absurd (never (subst (λ (rs : List RegionState). MayFreeOn rs c.args.core.now.system.state c.args.txn c.args.removal.now) c.deref.ensures.value (c.may_free.ensures.is c.if-not-may_free.false)))
+
+pub returns-in-Some-clause-promised : goal.returns-in-Some-clause-promised
+returns-in-Some-clause-promised g c = λ may promised. absurd (none-some c.in-Some.cause (sym promised.runs ∙ (sym c.stopped.ensures ∙ c.in-Some.is)))

@@ -1,5 +1,5 @@
 use Rattle.dali_system.specs.Refused.{stop_refusal}
-use Rattle.std.proofs.Common.{true, false, List, length, ◌≤◌, ◌≡◌, ap, sym, subst, ◌∙◌}
+use Rattle.std.proofs.Common.{true, false, List, length, ◌≡◌, ap, sym, subst, ◌∙◌}
 use Rattle.std.specs.List.{AllByRecursion}
 use Rattle.std.specs.FinMap.{insert}
 use Rattle.dali_record.specs.declared.operations.Pending.{Pending}
@@ -10,7 +10,7 @@ use Rattle.dali_runs.specs.Steps.{commit_logged}
 use Rattle.dali_system.specs.Served.{Served, promised_for}
 use Rattle.dali_system.specs.Promised.{Promised, promised_to, used}
 use Rattle.dali_calls.proofs.Others.{promises_further}
-use Rattle.dali_calls.specs.Single.Settling.{MayFree, settle_room}
+use Rattle.dali_calls.specs.Single.Settling.{MayFree}
 use Rattle.dali_calls.proofs.SingleLemmas.Going.{row_there}
 use Rattle.dali_calls.proofs.SingleLemmas.Settled.{may_free_all, commit_led, committed_state, commit_others, promise_left}
 use Rattle.dali_calls.proofs.SingleLemmas.Promising.{promises_put, promises_used, runs_on, enough_to_commit}
