@@ -60,6 +60,8 @@ def keeps_the_chain(_number: int, done: list[Done]) -> bool | str:
         return "the store didn't fail"
     if first.status not in (0, 6) or (first.status == 6) != first.out.endswith("store fault\n"):
         return f"the first ends with {first.status} and {first.out!r}"
+    if first.status == 0 and "store stopped\n" not in first.out:
+        return f"no line tells that the store failed: {first.out!r}"
     told = first.out.count("1 commit ok")
     if later.status == 8:
         return told == 0 or f"{told} commits were told, and there is no database"

@@ -5,7 +5,7 @@ use crate::keys::mix;
 use crate::timing::Timing;
 use anyhow::{Context, Result, ensure};
 use dali_claims::{ClaimSeat, Claims};
-use dali_notes::{Note, Notes, Tells};
+use dali_notes::{Anything, Note, Notes, Tells};
 use std::alloc::Global;
 use std::rt::Clock;
 use std::time::Instant;
@@ -43,7 +43,12 @@ impl Tells<u32, u64> for Shown {
 }
 
 // A note adds the numbers below the count, and another one meets it after each.
-fn note_all(notes: &Notes<u64>, writer: &mut Note<u64>, reader: &mut Note<u64>, count: u32)
+fn note_all(
+    notes: &Notes<u64, Anything>,
+    writer: &mut Note<u64, Anything>,
+    reader: &mut Note<u64, Anything>,
+    count: u32,
+)
     requires { (writer.old.table ≡ notes.now.table) × (reader.old.table ≡ notes.now.table) }
 {
     for number in 0..count {
@@ -54,7 +59,7 @@ fn note_all(notes: &Notes<u64>, writer: &mut Note<u64>, reader: &mut Note<u64>, 
 
 /// One note adds the numbers below the count to a history, and another one meets it after each.
 pub fn note(clock: &impl Clock, alloc: Global, count: u32) -> Result<Timing> {
-    let (notes, mut list) = Notes::<u64>::new(alloc, 2)?;
+    let (notes, mut list) = Notes::<u64, Anything>::new(alloc, 2)?;
     let mut reader = list.pop().context("there is no second note")?;
     let mut writer = list.pop().context("there is no note")?;
     let start = Instant::now(clock)?;

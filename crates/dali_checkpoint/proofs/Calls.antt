@@ -79,7 +79,7 @@ head_there SideA heads h = refl
 head_there SideB heads h = refl
 
 -- one region more was brought up to date
-next_copied : (p q : Point) (h : Head) (r i : ℕ) → i < r + 1 → h.first ≤ length p.log → q.log ≡ p.log → target q ≡ target p
+pub next_copied : (p q : Point) (h : Head) (r i : ℕ) → i < r + 1 → h.first ≤ length p.log → q.log ≡ p.log → target q ≡ target p
     → q.copies ≡ copies_with p.copies (target p) r (Some (copy_at (length p.log)))
     → AreCopied p h (length p.log) r → IsCopiedAt q h (length q.log) i
 next_copied p q h r i l since log side copies are = by_test (i == r) refl

@@ -9,6 +9,8 @@ pub mod Walks
 pub mod Pieces
 pub mod Splits
 pub mod Far
+pub mod CopyingOut
+pub mod WaitingCopies
 pub mod Passing
 pub mod Results
 pub mod Joined

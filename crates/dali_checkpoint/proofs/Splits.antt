@@ -8,7 +8,7 @@ use Rattle.dali_store.specs.Store.{Files as Disk, file_of, Holds, HoldsIn, Torn,
 use Rattle.dali_store.proofs.OneFile.{with_file, file_with, file_other}
 
 -- ---- bytes that were written
-abbrev first_held : ℕ → List ℕ → List ℕ → List ℕ
+abbrev pub first_held : ℕ → List ℕ → List ℕ → List ℕ
 first_held p us old = take p old ++ us ++ drop (p + length us) old
 
 holds_split : (p : ℕ) (old new us bs : List ℕ) → p ≤ length old → Holds old p (us ++ bs) new → Holds (first_held p us old) (p + length us) bs new

@@ -5,3 +5,4 @@ pub mod Running
 pub mod Laws
 pub mod Moments
 pub mod Making
+pub mod CopiedOut

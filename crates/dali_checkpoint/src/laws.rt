@@ -1,5 +1,6 @@
 //! Laws of checkpoints over any store, each the contract of a function that does nothing.
 ghost use Rattle.dali_checkpoint.specs.Laws.{StartGoes, CopyGoes, SkipGoes, RunGoes, RunSkips, WordsGo, WordsSkip, SettleGoes, OthersKeep, FlushKeeps, AuditsTell, CertifyGoes, StartFaults, CopyFaults, RunFaults, SettleFaults, CertifyFaults, FailureEnds, GivesUp, PointsTell, EndsIdle, EndIsFar, PlacesStay, PlacesGoOn, PlacesGoFar, ClearReaches};
+ghost use Rattle.dali_checkpoint.specs.CopiedOut.{WaitBegins, SilentWaits, CopyWaits, CopiesWait, WriteEnds, WriteFails, WaitIsRight, WriteIsRight, LateWordsGo, LateWordsFail, OutBegins, OutGoes, OutStays, OutEnds, OutFails, OutIsRight};
 ghost use Rattle.dali_checkpoint.specs.Moments.{StartIsRight, CopyIsRight, SettleIsRight, CertifyIsRight, FailureIsRight};
 
 use dali_store::Store;
@@ -30,6 +31,37 @@ pub fn a_run_of_copies_makes_steps<V: Store>()
 pub fn copied_words_make_steps<V: Store>()
     ensures copied { WordsGo V.Store }
     ensures passed { WordsSkip V.Store }
+{}
+
+/// Where one holds the vault and copies the next regions one by one, others may change them before their words are written: the
+/// copies are steps of their own moments, and steps of others that call no store may stand anywhere between. Meanwhile the vault
+/// is at each point that these lead to, but for the write (`IsAtBut`), and behind the write of just the words that the copies
+/// told it is at that point. Where the write fails, whatever part of them it wrote, it is at the point behind the step of a head
+/// that fails, which may be the head that the point has. Each disk that a crash leaves, meanwhile and inside the write, spells
+/// files that restart right.
+pub fn copied_words_wait_for_their_write<V: Store>()
+    ensures begins { WaitBegins V.Store }
+    ensures silent { SilentWaits V.Store }
+    ensures copy { CopyWaits V.Store }
+    ensures copies { CopiesWait V.Store }
+    ensures written { WriteEnds V.Store }
+    ensures failed { WriteFails V.Store }
+    ensures meanwhile { WaitIsRight V.Store }
+    ensures inside { WriteIsRight V.Store }
+    ensures whole { LateWordsGo V.Store }
+    ensures fault { LateWordsFail V.Store }
+{}
+
+/// So is the checkpoint that is under way, from its next region on (`IsCopyingBut`): each `copy_out` is the copy of one region
+/// more, steps of others that call no store and take no frame may stand anywhere between, and behind `write_words` as many
+/// regions more are copied. Its fault ends the checkpoint, with the regions as they are.
+pub fn a_checkpoint_copies_beside_others<V: Store>()
+    ensures begins { OutBegins V.Store }
+    ensures copied { OutGoes V.Store }
+    ensures others { OutStays V.Store }
+    ensures written { OutEnds V.Store }
+    ensures failed { OutFails V.Store }
+    ensures inside { OutIsRight V.Store }
 {}
 
 /// So is a settlement, once all regions are copied: a taking and a flush, and the write of the table, behind which the whole

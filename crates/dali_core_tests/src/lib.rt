@@ -1,4 +1,4 @@
-//! Tests of `dali_system`, `dali_clean` and `dali_clean::cleanup`.
+//! Tests of `dali_system`, `dali_calls`, `dali_clean::cleanup`, `dali_checkpoint` and `dali_core`.
 #![tactic(auto)]
 
 #[cfg(test)]

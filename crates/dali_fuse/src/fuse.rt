@@ -223,6 +223,7 @@ impl<V: Store> Store for Fuse<V> {
         ensures idle { V.droppable (inner self.old) below ≡ 0 → IsIdle (V.told (inner self.old)) (V.told (inner self.new)) (V.may_leave (inner self.old)) (V.may_leave (inner self.new)) }
         ensures durable { OnOk result (0 < V.droppable (inner self.old) below → IsSynced FileName.Log (V.told (inner self.new)) (V.may_leave (inner self.new))) }
         ensures dropped { DroppedTold below (V.told (inner self.old)) (V.told (inner self.new)) }
+        ensures kept { DroppedTold (V.dropped_to (inner self.new)) (V.told (inner self.old)) (V.told (inner self.new)) }
         ensures crash { Follows (DroppedIn below) (V.may_leave (inner self.old)) (V.may_leave (inner self.new)) }
         ensures time { Elapses (V.moment (inner self.old)) (V.moment (inner self.new)) (V.left_since (inner self.old)) (V.left_since (inner self.new)) (After (DroppedIn below) (V.may_leave (inner self.old))) }
         ensures cause { HasCause (V.faults (inner self.old) + failed_of self.old) (V.faults (inner self.new) + failed_of self.new) result }

@@ -1,4 +1,4 @@
-//! A store of four files in memory, which keeps all that changed it, a fuse and a watch over any store.
+//! A store of four files in memory, which keeps all that changed it.
 #![tactic(auto)]
 
 mod bytes;

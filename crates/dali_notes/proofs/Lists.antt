@@ -1,5 +1,6 @@
 -- Histories, hands and totals.
-use Rattle.std.proofs.Common.{◌≡◌, ◌≢◌, ◌⊎◌, ℕ, zero, suc, ◌+◌, ◌≤◌, ◌<◌, ◌==◌, false, List, [], ◌∷◌, ◌++◌, length, set, refl, sym, ap, ◌∙◌, subst, ⊎_elim, arith, append_assoc, inl, inr}
+use Rattle.std.proofs.Common.{◌≡◌, ◌≢◌, ◌⊎◌, ℕ, zero, suc, ◌+◌, ◌≤◌, ◌<◌, ◌==◌, ◌||◌, Bool, true, false, List, [], ◌∷◌, ◌++◌, length, Some, set, refl, sym, ap, ◌∙◌, subst, ⊎_elim, arith, append_assoc, inl, inr}
+use Rattle.std.specs.Prelude.{slice_get, take}
 use Rattle.std.proofs.lemmas.List.{append-nil}
 use mathlib.Core.Option.{some, some-ne-none, some-injective}
 use lib.ListN.{get_elem?}
@@ -7,8 +8,8 @@ use Rattle.std.proofs.lemmas.Bool.{eq-eqb, ne_eqb}
 use native.Mathlib.Decide.{ℕ_discrete}
 use Rattle.atomic_table.proofs.Lists.{at_set}
 use Rattle.atomic_table.specs.Seated.{TableId}
-use Rattle.dali_notes.specs.History.{In, one_if, below, IsSeen, Sight, AreFresh, AreOf}
-use Rattle.dali_notes.specs.Kept.{total, hands_of, Fits, fresh_from, with_seen}
+use Rattle.dali_notes.specs.History.{In, one_if, below, signs, IsSeen, AllMay, Sight, AreFresh, AreOf}
+use Rattle.dali_notes.specs.Kept.{total, hands_of, Fits, fresh_from, signers, with_seen, all_with}
 
 pub below-low : (n c : ℕ) → n < c → below n c ≡ 1
 below-low zero zero h = absurd (omega arith)
@@ -28,6 +29,16 @@ below-is zero (suc c) h = omega arith
 below-is (suc n) zero h = absurd (omega arith)
 below-is (suc n) (suc c) h = let r : n < c = below-is n c h in omega arith
 
+pub below-most : (n c : ℕ) → below n c ≤ 1
+below-most zero zero = omega arith
+below-most zero (suc c) = omega arith
+below-most (suc n) zero = omega arith
+below-most (suc n) (suc c) = below-most n c
+
+pub false_if : (b : Bool) → (b ≡ true → ⊥) → b ≡ false
+false_if true f = absurd (f refl)
+false_if false f = refl
+
 module _ {X : Type 0} where
   in_append : (xs ys : List X) (x : X) → In (xs ++ ys) x → In xs x ⊎ In ys x
   in_append [] ys x m = inr m
@@ -46,45 +57,67 @@ module _ {X : Type 0} where
   all_none P x (i, is) = absurd (cc)
 
 module _ {E : Type 0} where
-  pub seen_self : (n : ℕ) (xs : List (ℕ × E)) → IsSeen xs n xs
-  seen_self n xs = record { rest = []; all = sym (append-nil xs); none = all_none (λ (x : ℕ × E). (x.0 == n) ≡ false) }
+  pub seen_self : (n : ℕ) (xs : List (List ℕ × E)) → IsSeen xs n xs
+  seen_self n xs = record { rest = []; all = sym (append-nil xs); none = all_none (λ (x : List ℕ × E). signs n x.0 ≡ false) }
 
-  pub seen_grow : (n : ℕ) (s h ys : List (ℕ × E)) → IsSeen h n s → ((x : ℕ × E) → In ys x → (x.0 == n) ≡ false) → IsSeen (h ++ ys) n s
+  pub seen_grow : (n : ℕ) (s h ys : List (List ℕ × E)) → IsSeen h n s → ((x : List ℕ × E) → In ys x → signs n x.0 ≡ false) → IsSeen (h ++ ys) n s
   seen_grow n s h ys f none = record {
     rest = f.rest ++ ys;
     all = ap (λ w. w ++ ys) f.all ∙ append_assoc s f.rest ys;
-    none = all_append (λ (x : ℕ × E). (x.0 == n) ≡ false) f.rest ys f.none none;
+    none = all_append (λ (x : List ℕ × E). signs n x.0 ≡ false) f.rest ys f.none none;
   }
 
-  pub fits_grow : (h ys : List (ℕ × E)) (v : List (ℕ × List (ℕ × E))) → Fits h v → ((n : ℕ) → 1 ≤ hands_of n v → (x : ℕ × E) → In ys x → (x.0 == n) ≡ false) → Fits (h ++ ys) v
+  pub fits_grow : (h ys : List (List ℕ × E)) (v : List (ℕ × List (List ℕ × E))) → Fits h v → ((n : ℕ) → 1 ≤ hands_of n v → (x : List ℕ × E) → In ys x → signs n x.0 ≡ false) → Fits (h ++ ys) v
   fits_grow h ys [] f none = tt
   fits_grow h ys (x ∷ xs) f none =
       let one : one_if (x.0 == x.0) ≡ 1 = ap one_if (eq-eqb x.0 x.0 refl) in
       (seen_grow x.0 x.1 h ys f.0 (none x.0 (omega arith)), fits_grow h ys xs f.1 (λ n more. none n (omega arith)))
 
-  pub hands-append : (n : ℕ) (v w : List (ℕ × List (ℕ × E))) → hands_of n (v ++ w) ≡ hands_of n v + hands_of n w
+  pub hands-append : (n : ℕ) (v w : List (ℕ × List (List ℕ × E))) → hands_of n (v ++ w) ≡ hands_of n v + hands_of n w
   hands-append n [] w = omega arith
   hands-append n (x ∷ xs) w = omega (arith, hands-append n xs w)
 
-  pub fits-append : (h : List (ℕ × E)) (v w : List (ℕ × List (ℕ × E))) → Fits h v → Fits h w → Fits h (v ++ w)
+  pub fits-append : (h : List (List ℕ × E)) (v w : List (ℕ × List (List ℕ × E))) → Fits h v → Fits h w → Fits h (v ++ w)
   fits-append h [] w f g = g
   fits-append h (x ∷ xs) w f g = (f.0, fits-append h xs w f.1 g)
 
-  pub fits_with_seen : (h : List (ℕ × E)) (v : List (ℕ × List (ℕ × E))) → Fits h v → Fits h (with_seen h v)
+  pub fits_with_seen : (h : List (List ℕ × E)) (v : List (ℕ × List (List ℕ × E))) → Fits h v → Fits h (with_seen h v)
   fits_with_seen h [] f = tt
   fits_with_seen h (x ∷ xs) f = (seen_self x.0 h, f.1)
 
-  pub length-with_seen : (h : List (ℕ × E)) (v : List (ℕ × List (ℕ × E))) → length (with_seen h v) ≡ length v
+  pub length-with_seen : (h : List (List ℕ × E)) (v : List (ℕ × List (List ℕ × E))) → length (with_seen h v) ≡ length v
   length-with_seen h [] = refl
   length-with_seen h (x ∷ xs) = refl
 
-  pub hands-none : (n : ℕ) (v : List (ℕ × List (ℕ × E))) → length v ≡ 0 → hands_of n v ≡ 0
+  pub hands-none : (n : ℕ) (v : List (ℕ × List (List ℕ × E))) → length v ≡ 0 → hands_of n v ≡ 0
   hands-none n [] h = refl
   hands-none n (x ∷ xs) h = absurd (omega arith)
 
-  pub hands-with_seen : (n : ℕ) (h : List (ℕ × E)) (v : List (ℕ × List (ℕ × E))) → hands_of n (with_seen h v) ≡ hands_of n v
+  pub hands-with_seen : (n : ℕ) (h : List (List ℕ × E)) (v : List (ℕ × List (List ℕ × E))) → hands_of n (with_seen h v) ≡ hands_of n v
   hands-with_seen n h [] = refl
   hands-with_seen n h (x ∷ xs) = refl
+
+  -- all hands have seen the whole history
+  pub fits_all_with : (h : List (List ℕ × E)) (v : List (ℕ × List (List ℕ × E))) → Fits h (all_with h v)
+  fits_all_with h [] = tt
+  fits_all_with h (x ∷ xs) = (seen_self x.0 h, fits_all_with h xs)
+
+  pub length-all_with : (h : List (List ℕ × E)) (v : List (ℕ × List (List ℕ × E))) → length (all_with h v) ≡ length v
+  length-all_with h [] = refl
+  length-all_with h (x ∷ xs) = ap suc (length-all_with h xs)
+
+  pub hands-all_with : (n : ℕ) (h : List (List ℕ × E)) (v : List (ℕ × List (List ℕ × E))) → hands_of n (all_with h v) ≡ hands_of n v
+  hands-all_with n h [] = refl
+  hands-all_with n h (x ∷ xs) = ap (λ k. one_if (x.0 == n) + k) (hands-all_with n h xs)
+
+  -- who signs has a hand
+  pub hands-signs : (n : ℕ) (v : List (ℕ × List (List ℕ × E))) → signs n (signers v) ≡ true → 1 ≤ hands_of n v
+  hands-signs n [] h = absurd (cc)
+  hands-signs n (x ∷ xs) h = by (x.0 == n) refl h (hands-signs n xs)
+    where
+      by : (b : Bool) → b ≡ (x.0 == n) → ((x.0 == n) || signs n (signers xs)) ≡ true → (signs n (signers xs) ≡ true → 1 ≤ hands_of n xs) → 1 ≤ hands_of n (x ∷ xs)
+      by true e h more = let one : one_if (x.0 == n) ≡ 1 = ap one_if (sym e) in omega arith
+      by false e h more = let rest : signs n (signers xs) ≡ true = ap (λ b. b || signs n (signers xs)) e ∙ h in omega (arith, more rest)
 
 module _ (E : Type 0) where
   pub fits_fresh : (k m : ℕ) → Fits [] (fresh_from {E = E} k m)
@@ -163,7 +196,26 @@ module _ {E : Type 0} where
   of_last t [] x f = f.0
   of_last t (y ∷ ys) x f = of_last t ys x f.1
 
+module _ {X : Type 0} where
+  -- of a list with one more element: it stands before, or is the last
+  pub sides : (xs : List X) (x : X) (i : ℕ) (y : X) → slice_get (xs ++ x ∷ []) i ≡ Some y
+      → ((slice_get xs i ≡ Some y) × (take i (xs ++ x ∷ []) ≡ take i xs)) ⊎ ((x ≡ y) × (take i (xs ++ x ∷ []) ≡ xs))
+  sides [] x zero y is = let same : x ≡ y = cc in inr (same, refl)
+  sides [] x (suc i) y is = absurd (cc)
+  sides (z ∷ xs) x zero y is = inl (is, refl)
+  sides (z ∷ xs) x (suc i) y is = ⊎_elim (λ (old : (slice_get xs i ≡ Some y) × (take i (xs ++ x ∷ []) ≡ take i xs)). inl (old.0, ap (λ l. z ∷ l) old.1))
+      (λ (new : (x ≡ y) × (take i (xs ++ x ∷ []) ≡ xs)). inr (new.0, ap (λ l. z ∷ l) new.1))
+      (sides xs x i y is)
+
 module _ {A : Type 0} where
   pub nothing : (xs : List A) → length xs ≡ 0 → xs ≡ []
   nothing [] h = refl
   nothing (x ∷ xs) h = absurd (omega arith)
+
+module _ {E : Type 0} (may : List (List ℕ × E) → List ℕ × E → Type 0) where
+  -- one entry more, which may be added
+  pub may_more : (log : List (List ℕ × E)) (x : List ℕ × E) → AllMay may log → may log x → AllMay may (log ++ x ∷ [])
+  may_more log x all next i y is = ⊎_elim
+      (λ (old : (slice_get log i ≡ Some y) × (take i (log ++ x ∷ []) ≡ take i log)). subst (λ h. may h y) (sym old.1) (all i y old.0))
+      (λ (new : (x ≡ y) × (take i (log ++ x ∷ []) ≡ log)). subst (may (take i (log ++ x ∷ []))) new.0 (subst (λ h. may h x) (sym new.1) next))
+      (sides log x i y is)

@@ -1,10 +1,15 @@
--- A history of numbered entries, and what each note has seen of it.
+-- A history of entries, each signed by the notes that added it together, and what each note has seen of it.
 --     In xs x                   x stands in the list
---     IsSeen log n seen         note n has seen this beginning of the history, and with it all of its own entries
---     Added n e old new         what note n has seen after it added e
+--     signs n ns                the note n is one of these
+--     IsSeen log n seen         note n has seen this beginning of the history, and with it all entries that it signed
 --     Place, Sight              what contracts see of the notes, and of a note
+--     AllSaw log notes          each of these notes has seen so much of it
+--     signed_by notes e         the entry e, signed by these notes
+--     Added notes e new         what these notes have seen after they added e
+--     AllMay may log            each entry may be added behind those before it, where `may` says which one may
+--     MayAdd may notes e        so may these notes add e, whatever others add meanwhile that may be added
 --     IsWhole log notes         the history that the notes leave
-use Rattle.std.specs.Prelude.{◌≡◌, ℕ, zero, suc, ◌+◌, ◌<◌, ◌==◌, Bool, true, false, List, [], ◌∷◌, ◌++◌, length, slice_get, Some}
+use Rattle.std.specs.Prelude.{◌≡◌, ℕ, zero, suc, ◌+◌, ◌<◌, ◌==◌, ◌||◌, Bool, true, false, List, [], ◌∷◌, ◌++◌, length, slice_get, take, Some}
 use Rattle.atomic_table.specs.Seated.{TableId}
 
 abbrev pub In : {X : Type 0} → List X → X → Type 0
@@ -14,6 +19,10 @@ abbrev pub one_if : Bool → ℕ
 one_if true = 1
 one_if false = 0
 
+abbrev pub signs : ℕ → List ℕ → Bool
+signs n [] = false
+signs n (m ∷ ms) = (m == n) || signs n ms
+
 -- 1 where the first number is below the second
 abbrev pub below : ℕ → ℕ → ℕ
 below zero zero = 0
@@ -22,15 +31,11 @@ below (suc n) zero = 0
 below (suc n) (suc m) = below n m
 
 module _ {E : Type 0} where
-  -- behind what was seen stand only entries of other numbers
-  pub record IsSeen (log : List (ℕ × E)) (number : ℕ) (seen : List (ℕ × E)) : Type 0 where
-    pub rest : List (ℕ × E)
+  -- behind what was seen stand only entries of others
+  pub record IsSeen (log : List (List ℕ × E)) (number : ℕ) (seen : List (List ℕ × E)) : Type 0 where
+    pub rest : List (List ℕ × E)
     pub all : log ≡ seen ++ rest
-    pub none : (x : ℕ × E) → In rest x → (x.0 == number) ≡ false
-
-  -- all that had been seen, what others added since, and then this entry
-  abbrev pub Added : ℕ → E → List (ℕ × E) → List (ℕ × E) → Type 0
-  Added n e old new = (now : List (ℕ × E)) × IsSeen now n old × (new ≡ now ++ (n, e) ∷ [])
+    pub none : (x : List ℕ × E) → In rest x → signs number x.0 ≡ false
 
 pub record Place : Type 0 where
   pub table : TableId
@@ -39,7 +44,30 @@ pub record Place : Type 0 where
 pub record Sight (E : Type 0) : Type 0 where
   pub table : TableId
   pub number : ℕ
-  pub seen : List (ℕ × E)
+  pub seen : List (List ℕ × E)
+
+module _ {E : Type 0} where
+  abbrev pub AllSaw : List (List ℕ × E) → List (Sight E) → Type 0
+  AllSaw log [] = Unit {0}
+  AllSaw log (x ∷ xs) = IsSeen log x.number x.seen × AllSaw log xs
+
+  abbrev pub numbers : List (Sight E) → List ℕ
+  numbers [] = []
+  numbers (x ∷ xs) = x.number ∷ numbers xs
+
+  abbrev pub signed_by : List (Sight E) → E → List ℕ × E
+  signed_by notes e = (numbers notes, e)
+
+  -- all that they had seen, what others added since, and then this entry
+  abbrev pub Added : List (Sight E) → E → List (List ℕ × E) → Type 0
+  Added notes e new = (now : List (List ℕ × E)) × AllSaw now notes × (new ≡ now ++ signed_by notes e ∷ [])
+
+module _ {E : Type 0} (may : List (List ℕ × E) → List ℕ × E → Type 0) where
+  abbrev pub AllMay : List (List ℕ × E) → Type 0
+  AllMay log = (i : ℕ) (x : List ℕ × E) → slice_get log i ≡ Some x → may (take i log) x
+
+  abbrev pub MayAdd : List (Sight E) → E → Type 0
+  MayAdd notes e = (now : List (List ℕ × E)) → AllSaw now notes → AllMay now → may now (signed_by notes e)
 
 module _ {E : Type 0} where
   -- notes of this table with the numbers from k on, which have seen nothing
@@ -57,12 +85,8 @@ module _ {E : Type 0} where
   notes_of n [] = 0
   notes_of n (x ∷ xs) = one_if (x.number == n) + notes_of n xs
 
-  abbrev pub AllSaw : List (ℕ × E) → List (Sight E) → Type 0
-  AllSaw log [] = Unit {0}
-  AllSaw log (x ∷ xs) = IsSeen log x.number x.seen × AllSaw log xs
-
-  -- each note has seen all of its own entries, each entry is of a note, and each number of a note is that of one
-  pub record IsWhole (log : List (ℕ × E)) (notes : List (Sight E)) : Type 0 where
+  -- each note has seen all of its own entries, each entry is of notes, and each number of a note is that of one
+  pub record IsWhole (log : List (List ℕ × E)) (notes : List (Sight E)) : Type 0 where
     pub seen : AllSaw log notes
-    pub numbered : (x : ℕ × E) → In log x → x.0 < length notes
+    pub numbered : (x : List ℕ × E) → In log x → (n : ℕ) → signs n x.0 ≡ true → n < length notes
     pub each : (n : ℕ) → notes_of n notes ≡ below n (length notes)

@@ -3,4 +3,4 @@
 
 mod history;
 
-pub use history::{Note, Notes, Tells};
+pub use history::{Anything, Note, Notes, Rules, Tells};

@@ -46,7 +46,7 @@ use Rattle.dali_recovery.proofs.Whole.{begins_behind}
 use Rattle.dali_recovery.specs.Reload.Reading.{IsAtImage}
 use Rattle.dali_restart.specs.Opening.{BeginsWith, IsImageIn, IsInRange, IsOpened, IsNoImage, expected, file_in}
 use Rattle.dali_restart.specs.Laws.{IsOneOpening}
-use Rattle.dali_restart.specs.Restarting.{BeginsAt}
+use Rattle.dali_restart.specs.Restarting.{BeginsAt, with_words}
 use Rattle.dali_restart.proofs.Bytes.{table_is_bytes}
 use Rattle.dali_restart.proofs.Once.{opens_as}
 use Rattle.dali_restart.proofs.Started.{are_started}
@@ -232,8 +232,8 @@ stands_behind s n place k front bs more B has parts records at some =
       inside = omega (arith, at, ap (sum_by batch_length) whole, sum_by-append batch_length (take k bs) (drop k bs ++ more));
     }
 
--- ---- files that are found
-module _ (fs : Disk) (F : Files) (is : Spells fs F) (finds : FindsIt F) where
+-- ---- files that are found, but for the words of their image
+module _ (fs : Disk) (F : Files) (is : Spells fs F) (right : List (List ℕ)) (finds : FindsIt (with_words F right)) where
   abbrev s : Sizes
   s = sizes_in F
 
@@ -314,8 +314,11 @@ module _ (fs : Disk) (F : Files) (is : Spells fs F) (finds : FindsIt F) where
   by_gates (suc n) e = with_image (omega (arith, e))
 
   -- the disk has these files before the first record behind their image
-  pub begins : BeginsAt fs (sizes_in F) F
-  begins = by_gates F.gates refl
+  pub begins_but : BeginsAt fs (sizes_in F) F
+  begins_but = by_gates F.gates refl
+
+pub begins : (fs : Disk) (F : Files) → Spells fs F → FindsIt F → BeginsAt fs (sizes_in F) F
+begins fs F is finds = begins_but fs F is F.image finds
 
 -- ---- a recovery behind what was opened
 pub at_image :

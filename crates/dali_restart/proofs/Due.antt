@@ -4,6 +4,7 @@ use Rattle.std.specs.Prelude.{IfOk, OnOk, if◌then◌else◌}
 use Rattle.std.proofs.Math.Nat.{lt_of_not-le}
 use Rattle.dali_lists.proofs.Options.{if_some_then}
 use Rattle.dali_store.specs.Store.{Files as Disk}
+use Rattle.dali_store.specs.declared.store.Store.{Ghosts}
 use Rattle.dali_log.specs.Appending.{next_place}
 use Rattle.dali_log.specs.Batch.{IsClosedAt, batch, batches}
 use Rattle.dali_log.proofs.Bytes.{length-batch}
@@ -11,7 +12,7 @@ use Rattle.dali_log.specs.Anchors.{AreAnchored}
 use Rattle.dali_log.specs.Anchors.{IsAnchor}
 use Rattle.dali_recovery.specs.declared.reload.counts.BeforeRestart.{BeforeRestart}
 use Rattle.dali_restart.specs.Renewal.Logged.{restart_bodies, restart_body, restart_length}
-use Rattle.dali_restart.specs.Renewal.Renewed.{AreReady, Renews, Stops, end_of}
+use Rattle.dali_restart.specs.Renewal.Renewed.{AreReady, Keeps, Renews, Stops, end_of}
 use Rattle.dali_restart.specs.declared.renewal.renewing.Standing.{Standing}
 use Rattle.dali_restart.proofs.RenewalLemmas.Bodies.{body_length, one_body}
 use Rattle.dali_restart.specs.declared.rise.rising.Resting.{Resting}
@@ -122,12 +123,15 @@ moved_to P p q m n rs rt ds dt ws wt one two three four five h =
     subst (P q n rt dt) five (subst (λ (d : List ℕ). P q n rt d ws) four (subst (λ (r : List ℕ). P q n r ds ws) three (subst (λ (k : Option ℕ). P q k rs ds ws) two (subst (λ (s : Standing). P s m rs ds ws) one h))))
 
 -- what a renewal made with what was read through slices, it made with what was found
-pub written_at : {V T E : Type 0} (told : V → Option Disk) (may_leave : V → Disk → Type 0) (moment : V → ℕ) (left_since : V → ℕ → Disk → Type 0) (p q : Standing) (m n : Option ℕ) (rs rt ds dt : List ℕ) (ws wt : List (List ℕ)) (old new : V) (result : Result T E)
-    → p ≡ q → m ≡ n → rs ≡ rt → ds ≡ dt → ws ≡ wt → OnOk result (IfSome (told old) (λ _. Renews may_leave moment left_since p m rs ds ws old new)) → IfSome (told old) (λ _. Stops may_leave moment left_since p m rs ds ws old new)
-    → IsWritten told may_leave moment left_since q n rt dt wt old new result
-written_at told may_leave moment left_since p q m n rs rt ds dt ws wt old new result one two three four five renews stops = record {
-  renews = moved_to (λ s k r d l. OnOk result (IfSome (told old) (λ _. Renews may_leave moment left_since s k r d l old new))) p q m n rs rt ds dt ws wt one two three four five renews;
-  stops = moved_to (λ s k r d l. IfSome (told old) (λ _. Stops may_leave moment left_since s k r d l old new)) p q m n rs rt ds dt ws wt one two three four five stops;
+pub written_at : {V T E : Type 0} (means : Ghosts V) (p q : Standing) (m n : Option ℕ) (rs rt ds dt : List ℕ) (ws wt : List (List ℕ)) (old new : V) (result : Result T E)
+    → p ≡ q → m ≡ n → rs ≡ rt → ds ≡ dt → ws ≡ wt → OnOk result (IfSome (means.told old) (λ _. Renews means.may_leave means.moment means.left_since p m rs ds ws old new))
+    → IfSome (means.told old) (λ _. Stops means.may_leave means.moment means.left_since p m rs ds ws old new)
+    → IfSome (means.told old) (λ _. Keeps means.may_leave means.moment means.left_since p m rs ds ws old new)
+    → IsWritten means (record { standing = q; logged = n; rolled = rt; deleted = dt; words = wt }) old new result
+written_at means p q m n rs rt ds dt ws wt old new result one two three four five renews stops keeps = record {
+  renews = moved_to (λ s k r d l. OnOk result (IfSome (means.told old) (λ _. Renews means.may_leave means.moment means.left_since s k r d l old new))) p q m n rs rt ds dt ws wt one two three four five renews;
+  stops = moved_to (λ s k r d l. IfSome (means.told old) (λ _. Stops means.may_leave means.moment means.left_since s k r d l old new)) p q m n rs rt ds dt ws wt one two three four five stops;
+  keeps = moved_to (λ s k r d l. IfSome (means.told old) (λ _. Keeps means.may_leave means.moment means.left_since s k r d l old new)) p q m n rs rt ds dt ws wt one two three four five keeps;
 }
 
 -- ---- it is small

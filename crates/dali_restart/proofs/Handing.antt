@@ -28,7 +28,7 @@ use Rattle.dali_restart.specs.declared.rise.rising.Resting.{Resting}
 use Rattle.dali_restart.specs.declared.restarting.Found.{Found}
 use Rattle.dali_restart.specs.declared.restarting.Report.{Report}
 use Rattle.dali_restart.specs.Deciding.{IsReadIn, IsSettled, Settles}
-use Rattle.dali_restart.specs.Restarting.{BeginsRun, Gives, IsFresh, IsLeft, IsOnWay, IsReadAs, LeavesAtRest, RunsFrom, SpellsOnWay, StopsAlike, outcome}
+use Rattle.dali_restart.specs.Restarting.{BeginsRun, Gives, IsFresh, IsLeft, IsOnWay, IsReadAs, LeavesAtRest, RunsFrom, SpellsLater, SpellsOnWay, StopsAlike, StopsAppending, outcome}
 use Rattle.dali_restart.proofs.Once.{reads_once}
 use Rattle.dali_restart.proofs.Telling.{gives_all, reads_as}
 
@@ -147,6 +147,16 @@ module _ {V : Type 0} (told : V → Option Disk) (may_leave : V → Disk → Typ
   stops_reading fs old new reads F spells finds =
       weaker moment left_since old new (may_leave old) (λ c. may_leave old c ⊎ SpellsOnWay F c) reads (λ c left. inl left)
 
+  pub appends_reading : (fs : Disk) (old new : V) → LeavesOnly moment left_since old new (may_leave old) → StopsAppending may_leave moment left_since fs old new
+  appends_reading fs old new reads F spells but =
+      weaker moment left_since old new (may_leave old) (λ c. may_leave old c ⊎ SpellsLater F c) reads (λ c left. inl left)
+
+  pub appends_settling : (fs : Disk) (old mid new : V) → OnlyReads told moment left_since may_leave old mid
+      → StopsAppending may_leave moment left_since fs mid new → StopsAppending may_leave moment left_since fs old new
+  appends_settling fs old mid new reads appends F spells but =
+      joins moment left_since old mid new (may_leave old) (λ c. may_leave mid c ⊎ SpellsLater F c) (λ c. may_leave old c ⊎ SpellsLater F c) reads.any_moment (appends F spells but)
+      (λ c left. inl left) (λ c p. ⊎_elim (λ left. inl (reads.crash c left)) (λ later. inr later) p)
+
   pub stops_settling : (fs : Disk) (old mid new : V) → OnlyReads told moment left_since may_leave old mid
       → StopsAlike may_leave moment left_since fs mid new → StopsAlike may_leave moment left_since fs old new
   stops_settling fs old mid new reads stops F spells finds =
@@ -170,6 +180,7 @@ module _ {V : Type 0} (means : Ghosts V) where
       → IsLeft means old new
   left_reading old new reads later passes = record {
     any_moment = if_some_any _ (means.told old) (λ fs. stops_reading means.told means.may_leave means.moment means.left_since fs old new reads.any_moment);
+    appends = if_some_any _ (means.told old) (λ fs. appends_reading means.told means.may_leave means.moment means.left_since fs old new reads.any_moment);
     comes_back = comes_same (means.told old) (means.told new) reads.same;
     tells = ap is_some reads.same;
     later = later;
@@ -178,11 +189,13 @@ module _ {V : Type 0} (means : Ghosts V) where
 
   pub left_settling :
       (old mid new : V) → ((t : ℕ) (c : Disk) → t ≤ means.moment new → means.may_leave new c → means.left_since new t c) → IfSome (means.told new) (means.may_leave new)
-      → OnlyReads means.told means.moment means.left_since means.may_leave old mid → (x : Found) → IfSome (means.told old) (λ fs. IsReadIn fs (means.may_leave mid) x) → IfSome (means.told mid) (λ fs. StopsAlike means.may_leave means.moment means.left_since fs mid new) → is_some (means.told new) ≡ is_some (means.told mid)
+      → OnlyReads means.told means.moment means.left_since means.may_leave old mid → (x : Found) → IfSome (means.told old) (λ fs. IsReadIn fs (means.may_leave mid) x) → IfSome (means.told mid) (λ fs. StopsAlike means.may_leave means.moment means.left_since fs mid new)
+      → IfSome (means.told mid) (λ fs. StopsAppending means.may_leave means.moment means.left_since fs mid new) → is_some (means.told new) ≡ is_some (means.told mid)
       → means.faults old ≤ means.faults mid → means.faults mid ≤ means.faults new → PassesFewer (means.lets_pass old) (means.lets_pass mid) → PassesFewer (means.lets_pass mid) (means.lets_pass new)
       → IsLeft means old new
-  left_settling old mid new counts now reads x is stops tells later then passes goes = record {
+  left_settling old mid new counts now reads x is stops adds tells later then passes goes = record {
     any_moment = if_some_then _ _ (means.told old) (if_some_same _ (means.told old) (means.told mid) reads.same stops) (λ fs alike. stops_settling means.told means.may_leave means.moment means.left_since fs old mid new reads alike);
+    appends = if_some_then _ _ (means.told old) (if_some_same _ (means.told old) (means.told mid) reads.same adds) (λ fs added. appends_settling means.told means.may_leave means.moment means.left_since fs old mid new reads added);
     comes_back =
         comes_settling means.told means.may_leave means.moment means.left_since mid new counts (means.told old) (means.told new)
         (if_some_two _ _ _ (means.told old) is (if_some_same _ (means.told old) (means.told mid) reads.same stops) (λ fs is alike. (is.only, alike))) now;

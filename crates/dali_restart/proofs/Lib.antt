@@ -15,7 +15,10 @@ pub mod Passing
 pub mod Handing
 pub mod Due
 pub mod Settling
+pub mod Appending
+pub mod Missed
 pub mod Short
+pub mod Fitting
 pub mod Idle
 pub mod RenewalLemmas
 pub mod RiseLemmas

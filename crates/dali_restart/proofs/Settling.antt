@@ -25,7 +25,7 @@ use Rattle.dali_history.proofs.Restarts.{IsHistory-restarted}
 use Rattle.dali_history.specs.Recovered.{base_of, recovered}
 use Rattle.dali_store.specs.Store.{Files as Disk, Only}
 use Rattle.dali_store.proofs.Moments.{weaker}
-use Rattle.dali_log.specs.Log.{AreSpelled}
+use Rattle.dali_log.specs.Log.{AreSpelled, TailOf}
 use Rattle.dali_log.proofs.Bytes.{batches_length}
 use Rattle.dali_runs.proofs.CountsLemmas.ShortLogs.{batches_framed}
 use Rattle.dali_runs.proofs.CountsLemmas.Tallies.{numbers, numbers_drawn, tallies}
@@ -36,7 +36,8 @@ use Rattle.dali_crash.specs.Disks.Disks.{AllSpell, Spells, sizes_in}
 use Rattle.dali_crash.proofs.DisksLemmas.Ends.{some_in}
 use Rattle.dali_image.specs.declared.header.Header.{Header}
 use Rattle.dali_resume.specs.Again.{Outcome, closed_log, closing, outcome_is}
-use Rattle.dali_resume.specs.Batches.{records_of}
+use Rattle.dali_resume.specs.Batches.{records_of, verdict_over}
+use Rattle.dali_resume.specs.Onward.{HandedOut, goes_through}
 use Rattle.dali_resume.specs.Rules.{ends_restarted}
 use Rattle.dali_resume.specs.Interrupted.Found.{FindsIt, IsResting}
 use Rattle.dali_resume.specs.Interrupted.Rests.{EndsLogged, IsToBegin, SaysOf, StandsAlone, StandsTold}
@@ -46,8 +47,7 @@ use Rattle.dali_resume.proofs.InterruptedLemmas.Saying.{stages_say}
 use Rattle.dali_resume.proofs.InterruptedLemmas.Stages.{closed_lawful, closing_log, same_sizes, turned_gates}
 use Rattle.dali_resume.proofs.InterruptedLemmas.Telling.{tells_stage}
 use Rattle.dali_recovery.specs.Laws.{outcome_of}
-use Rattle.dali_recovery.specs.Reload.Counting.{IsLast, StandsBefore}
-use Rattle.dali_recovery.specs.Reload.Laws.{IsWholeLog}
+use Rattle.dali_recovery.specs.Reload.Counting.{AreCounted, IsLast, StandsBefore}
 use Rattle.dali_recovery.specs.Reload.Reading.{IsReloaded}
 use Rattle.dali_recovery.specs.declared.reload.counts.BeforeRestart.{BeforeRestart}
 use Rattle.dali_restart.specs.Renewal.Logged.{restart_of}
@@ -63,7 +63,7 @@ use Rattle.dali_restart.specs.Restarting.{IsAtRest, IsOnWay, IsTold, SpellsOnWay
 use Rattle.dali_restart.specs.declared.restarting.Due.TheVariants as dues
 use Rattle.dali_restart.specs.declared.restarting.Found.{Found}
 use Rattle.dali_restart.proofs.Beginning.{begins}
-use Rattle.dali_restart.proofs.Telling.{ReadsBehind, is_told, read_behind, reads_found}
+use Rattle.dali_restart.proofs.Telling.{ReadsBehind, right, said, tail_behind}
 
 -- ---- lists
 last_drop : {X : Type 0} (n : ℕ) (xs : List X) → n < length xs → last_of (drop n xs) ≡ last_of xs
@@ -164,12 +164,41 @@ same_next : (M : List Record) → next_after (closed_log M) ≡ next_after M
 same_next M = ap (λ (l : List ℕ). length l + 1) (filter_map-append draws M (closing M ∷ []) ∙ append-nil (filter_map draws M))
 
 -- ---- what was read of files that are found
-module _ (fs : Disk) (F : Files) (is : Spells fs F) (finds : FindsIt F) (x : Found) (all : ReadsAll fs x) where
+-- the numbers and lists are those of these files, whatever the words are
+pub record IsReadOf (fs : Disk) (F : Files) (x : Found) : Type 0 where
+  pub batches : List (List Record)
+  pub tail : TailOf fs.log F.place batches x.reloaded.end
+  pub outcome : Outcome
+  pub verdict : verdict_over (sizes_in F) F batches ≡ HandedOut outcome
+  pub rolled : x.reloaded.recovered.rolled_back.items ≡ outcome.rolled
+  pub deleted : x.reloaded.recovered.deleted.items ≡ outcome.deleted
+  pub next : x.reloaded.recovered.next ≡ (goes_through (sizes_in F) F (records_of batches)).known.next
+  pub counted : AreCounted F.place batches x.reloaded.counts
+
+abbrev pub read_as : (fs : Disk) (F : Files) (x : Found) → IsBase (sizes_in F) F x.base × IsReloaded fs.log (sizes_in F) F x.reloaded → IsBase (sizes_in F) F x.base × IsReadOf fs F x
+read_as fs F x r = (
+  r.0,
+  record {
+    batches = r.1.batches;
+    tail = r.1.tail;
+    outcome = outcome_of x.reloaded.recovered;
+    verdict = r.1.verdict;
+    rolled = refl;
+    deleted = refl;
+    next = r.1.next;
+    counted = r.1.counted;
+  },
+)
+
+abbrev read_of : (fs : Disk) (F : Files) (is : Spells fs F) → FindsIt F → (x : Found) → ReadsAll fs x → IsBase (sizes_in F) F x.base × IsReadOf fs F x
+read_of fs F is finds x all = read_as fs F x (all (sizes_in F) F (begins fs F is finds))
+
+module _ (fs : Disk) (F : Files) (is : Spells fs F) (finds : FindsIt F) (x : Found) (read : IsBase (sizes_in F) F x.base × IsReadOf fs F x) where
   abbrev L : List Record
   L = log_in F
 
   abbrev words : List (List ℕ)
-  words = x.reloaded.recovered.regions.items
+  words = read.1.outcome.image
 
   abbrev rs : List ℕ
   rs = x.reloaded.recovered.rolled_back.items
@@ -177,17 +206,23 @@ module _ (fs : Disk) (F : Files) (is : Spells fs F) (finds : FindsIt F) (x : Fou
   abbrev ds : List ℕ
   ds = x.reloaded.recovered.deleted.items
 
-  read : IsBase (sizes_in F) F x.base × IsReloaded fs.log (sizes_in F) F x.reloaded
-  read = all (sizes_in F) F (begins fs F is finds)
+  told : IsTold F read.1.outcome
+  told = said fs F is finds read.1.batches x.reloaded.end read.1.outcome read.1.tail read.1.verdict
 
-  told : IsTold F (outcome_of x.reloaded.recovered)
-  told = is_told fs F is finds x.reloaded read.1
-
-  whole : (x.reloaded.end ≡ sum_by batch_length F.batches) × IsWholeLog (sizes_in F) (log_in F) F x.reloaded
-  whole = reads_found fs F is finds x.reloaded read.1
+  behind : ReadsBehind F read.1.batches × (x.reloaded.end ≡ sum_by batch_length F.batches)
+  behind = tail_behind fs F is finds read.1.batches x.reloaded.end read.1.tail
 
   tail : ReadsBehind F read.1.batches
-  tail = read_behind fs F is finds x.reloaded read.1
+  tail = behind.0
+
+  place_whole : x.reloaded.end ≡ sum_by batch_length F.batches
+  place_whole = behind.1
+
+  next_whole : x.reloaded.recovered.next ≡ next_after (log_in F)
+  next_whole = read.1.next ∙ (ap (λ Q. (goes_through (sizes_in F) F Q).known.next) tail.records ∙ (right fs F is finds).next)
+
+  weight_whole : F.weight + x.reloaded.counts.bytes ≡ sum_by record_length (log_in F)
+  weight_whole = omega (arith, (right fs F is finds).weight, read.1.counted.bytes, ap (sum_by record_length) tail.records)
 
   count : F.first ≤ length (log_in F)
   count = omega (arith, finds.found.fits.1.fits.count, ap length finds.found.log, length-append finds.found.front (records_of finds.found.more))
@@ -200,7 +235,7 @@ module _ (fs : Disk) (F : Files) (is : Spells fs F) (finds : FindsIt F) (x : Fou
   first_is = omega (arith, ap (λ (h : Header). h.first) read.0.header, read_count, count)
 
   weight_is : (at_end x).weight ≡ sum_by record_length (log_in F)
-  weight_is = ap (λ (h : Header). h.weight + x.reloaded.counts.bytes) read.0.header ∙ whole.1.weight
+  weight_is = ap (λ (h : Header). h.weight + x.reloaded.counts.bytes) read.0.header ∙ weight_whole
 
   image_is : words ≡ recovered (sizes_of (log_in F)) (log_in F)
   image_is = ap (λ (o : Outcome). o.image) told.told
@@ -219,9 +254,9 @@ module _ (fs : Disk) (F : Files) (is : Spells fs F) (finds : FindsIt F) (x : Fou
     sizes = read.0.geometry;
     records = first_is ∙ sym tally.0;
     weight = weight_is ∙ sym tally.1;
-    next = whole.1.next ∙ (sym (numbers_drawn L) ∙ sym tally.2);
+    next = next_whole ∙ (sym (numbers_drawn L) ∙ sym tally.2);
     image = image_is;
-    short = omega (arith, whole.0, framed fs F is);
+    short = omega (arith, place_whole, framed fs F is);
     moved = few;
   })
     where
@@ -267,7 +302,7 @@ module _ (fs : Disk) (F : Files) (is : Spells fs F) (finds : FindsIt F) (x : Fou
       ap (due_by x) m.1
       ∙ ap (λ n. cond (nat_le n 1) dues.Nothing (dues.Image (before x m.0))) (read.1.counted.records ∙ (ap length tail.records ∙ ap length a.alone))
 
-  ended_log : (e : EndsLogged F) → log_in F ≡ closed_log e.log
+  pub ended_log : (e : EndsLogged F) → log_in F ≡ closed_log e.log
   ended_log e = moving_log e.log e.batches F.gates F e.restarting (inl e.logged)
 
   ended_size : (e : EndsLogged F) → length (log_in F) ≡ length e.log + 1
@@ -287,7 +322,7 @@ module _ (fs : Disk) (F : Files) (is : Spells fs F) (finds : FindsIt F) (x : Fou
       )
 
   -- ---- and so at which stage the files are
-  to_begin : due_of x ≡ dues.Record → IsToBegin F
+  pub to_begin : due_of x ≡ dues.Record → IsToBegin F
   to_begin due = by_stage (tells_stage fs F is finds)
     where
       by_stage : IsToBegin F ⊎ StandsAlone F ⊎ StandsTold F ⊎ EndsLogged F → IsToBegin F
@@ -305,10 +340,10 @@ module _ (fs : Disk) (F : Files) (is : Spells fs F) (finds : FindsIt F) (x : Fou
       by_stage (inr (inr (inl a))) = (a.resting, inr (a.rolled, a.deleted, a.alone))
       by_stage (inr (inr (inr e))) = let d = due_ended e in let never : dues.Image (before x d.0) ≡ dues.Nothing = sym d.2 ∙ due in absurd (cc)
 
-  abbrev EndsSo : Standing → Type 0
+  abbrev pub EndsSo : Standing → Type 0
   EndsSo p = (e : EndsLogged F) × (m : BeforeRestart) × StandsBefore F.place read.1.batches m × (p ≡ before x m)
 
-  ends_so : (p : Standing) → due_of x ≡ dues.Image p → EndsSo p
+  pub ends_so : (p : Standing) → due_of x ≡ dues.Image p → EndsSo p
   ends_so p due = by_stage (tells_stage fs F is finds)
     where
       by_stage : IsToBegin F ⊎ StandsAlone F ⊎ StandsTold F ⊎ EndsLogged F → EndsSo p
@@ -322,27 +357,27 @@ module _ (fs : Disk) (F : Files) (is : Spells fs F) (finds : FindsIt F) (x : Fou
     own_begun : SaysOf (log_in F) F
     own_begun = (stages_say L F.batches F.gates F b.restarting).found finds.found
 
-    names : restart_of rs ds ≡ closing (log_in F)
+    pub names : restart_of rs ds ≡ closing (log_in F)
     names = λ i. restart_of (rolled i) (deleted i)
       where
         told_same : told_by F ≡ outcome_is (log_in F)
         told_same = says_told L F own_begun
 
         rolled : rs ≡ rolled_list (last_epoch (log_in F))
-        rolled = ap (λ (o : Outcome). o.rolled) (told.told ∙ told_same)
+        rolled = read.1.rolled ∙ ap (λ (o : Outcome). o.rolled) (told.told ∙ told_same)
 
         deleted : ds ≡ deleted_list (last_epoch (log_in F))
-        deleted = ap (λ (o : Outcome). o.deleted) (told.told ∙ told_same)
+        deleted = read.1.deleted ∙ ap (λ (o : Outcome). o.deleted) (told.told ∙ told_same)
 
-    stands_begun : IsStanding (log_in F) F.batches F.gates (at_end x) words
+    pub stands_begun : IsStanding (log_in F) F.batches F.gates (at_end x) words
     stands_begun = record {
       restarting = b.restarting;
       sizes = read.0.geometry;
       current = read.0.current;
-      place = whole.0;
+      place = place_whole;
       first = first_is;
       weight = weight_is;
-      next = whole.1.next;
+      next = next_whole;
       image = image_is;
     }
 
@@ -368,8 +403,8 @@ module _ (fs : Disk) (F : Files) (is : Spells fs F) (finds : FindsIt F) (x : Fou
       moved = omega (arith, read.0.current, finds.few, length-append L (closing L ∷ []));
     }
 
-    settled_record : (r : Resting) (may : Disk → Type 0) → LogsRecord x r → AllSpell may (IsTurned (log_in F) F.batches F.gates) → IsSettled F x r may
-    settled_record r may logs now = record {
+    settled_record : words ≡ x.reloaded.recovered.regions.items → (r : Resting) (may : Disk → Type 0) → LogsRecord x r → AllSpell may (IsTurned (log_in F) F.batches F.gates) → IsSettled F x r may
+    settled_record given r may logs now = record {
       log = closed_log L;
       goes_on = inr refl;
       history = λ past.
@@ -377,8 +412,9 @@ module _ (fs : Disk) (F : Files) (is : Spells fs F) (finds : FindsIt F) (x : Fou
           refl;
       begun = inr (omega (arith, b.behind, length-append L (closing L ∷ [])));
       rules = h.0;
-      at = subst (λ (z : Resting). IsAtLog (closed_log L) h.0 z words) (sym rest_is)
-          (rests_behind L F.batches F.gates (at_end x) words (end_of None (at_end x) rs ds) h.0 stands_begun room h.1);
+      at = subst (λ (z : Resting). IsAtLog (closed_log L) h.0 z x.reloaded.recovered.regions.items) (sym rest_is)
+          (subst (λ ws. IsAtLog (closed_log L) h.0 (resting_behind (at_end x) (end_of None (at_end x) rs ds) (closing L)) ws) given
+          (rests_behind L F.batches F.gates (at_end x) words (end_of None (at_end x) rs ds) h.0 stands_begun room h.1));
       batches = F.batches ++ (closing L ∷ []) ∷ [];
       disks = λ c left. let q = now c left in (
         q.0,
@@ -431,7 +467,7 @@ module _ (fs : Disk) (F : Files) (is : Spells fs F) (finds : FindsIt F) (x : Fou
       arith,
       ap (λ (h : Header). h.weight) read.0.header,
       st.bytes,
-      whole.1.weight,
+      weight_whole,
       read.1.counted.bytes,
       ap (sum_by record_length) (ap records_of st.alone ∙ flat_map-append (λ b. b) st.front ((Restarted st.rolled st.deleted ∷ []) ∷ [])),
       sum_by-append record_length (records_of st.front) (Restarted st.rolled st.deleted ∷ []),
@@ -440,7 +476,7 @@ module _ (fs : Disk) (F : Files) (is : Spells fs F) (finds : FindsIt F) (x : Fou
       sum_by-append record_length e.log (closing e.log ∷ []),
     )
 
-    stands_ended : IsStanding e.log e.batches F.gates (before x m) words
+    pub stands_ended : IsStanding e.log e.batches F.gates (before x m) words
     stands_ended = record {
       restarting = e.restarting;
       sizes = read.0.geometry ∙ (ap sizes_of (ended_log e) ∙ same_sizes e.log);
@@ -448,7 +484,7 @@ module _ (fs : Disk) (F : Files) (is : Spells fs F) (finds : FindsIt F) (x : Fou
       place = place_is;
       first = omega (arith, first_is, ended_size e);
       weight = weight_before;
-      next = whole.1.next ∙ (ap next_after (ended_log e) ∙ same_next e.log);
+      next = next_whole ∙ (ap next_after (ended_log e) ∙ same_next e.log);
       image = image_is ∙ own_ended.image;
     }
 
@@ -457,15 +493,16 @@ module _ (fs : Disk) (F : Files) (is : Spells fs F) (finds : FindsIt F) (x : Fou
         way_ended e.log F G (moving_log e.log e.batches F.gates G e.restarting stage ∙ sym (ended_log e)) own_ended
         (moving_says e.log e.batches F.gates G e.restarting stage)
 
-    settled_image : (r : Resting) (may : Disk → Type 0) → WritesImage x r → AllSpell may (IsTurned e.log e.batches F.gates) → IsSettled F x r may
-    settled_image r may writes now = record {
+    settled_image : words ≡ x.reloaded.recovered.regions.items → (r : Resting) (may : Disk → Type 0) → WritesImage x r → AllSpell may (IsTurned e.log e.batches F.gates) → IsSettled F x r may
+    settled_image given r may writes now = record {
       log = L;
       goes_on = inl refl;
       history = λ past. past;
       begun = inr (omega (arith, e.behind, ended_size e));
       rules = g.0;
-      at = at_log r (x.base.current + 1) writes (omega (arith, read.0.current, finds.found.place.moved, e.behind, ended_size e))
-          (ap (λ K. (last_epoch K).records) (ended_log e) ∙ ap (λ (c : Cut). c.now.records) (cut_push e.log (closing e.log)));
+      at = subst (λ ws. IsAtLog L g.0 r ws) given
+          (at_log r (x.base.current + 1) writes (omega (arith, read.0.current, finds.found.place.moved, e.behind, ended_size e))
+          (ap (λ K. (last_epoch K).records) (ended_log e) ∙ ap (λ (c : Cut). c.now.records) (cut_push e.log (closing e.log))));
       batches = F.batches;
       disks = λ c left. let q = now c left in (
         q.0,
@@ -476,7 +513,7 @@ module _ (fs : Disk) (F : Files) (is : Spells fs F) (finds : FindsIt F) (x : Fou
             (turned_batches e.log e.batches F.gates q.0 q.2 ∙ sym batches_are)
             (turned_rests e.log e.batches F.gates q.0 e.restarting q.2)
             (turned_read e.log e.batches F.gates q.0 e.restarting q.2)
-            (ap (λ (z : Resting). z.end) writes ∙ whole.0)
+            (ap (λ (z : Resting). z.end) writes ∙ place_whole)
             (ap (λ (z : Resting). z.current) writes ∙ (ap (λ n. n + 1) read.0.current ∙ sym (turned_gates e.log e.batches F.gates q.0 q.2))),
       );
     }
@@ -488,23 +525,23 @@ settles_nothing fs x may due only all F is finds = record {
   goes_on = inl refl;
   history = λ past. past;
   begun = ⊎_elim (λ none. inl (read'.current ∙ none)) (λ two. inr two) finds.found.place.some;
-  rules = (g fs F is finds x all).0;
-  at = at_log fs F is finds x all (resting_of (at_end x)) x.base.current refl (omega (arith, read'.current, finds.few)) rests.0.none;
+  rules = (g fs F is finds x (read_of fs F is finds x all)).0;
+  at = at_log fs F is finds x (read_of fs F is finds x all) (resting_of (at_end x)) x.base.current refl (omega (arith, read'.current, finds.few)) rests.0.none;
   batches = F.batches;
   disks = λ c left. (
     F,
     subst (λ d. Spells d F) (sym (only c left)) is,
     record { finds = finds; log = inl refl; told = refl; history = λ h. h },
     rests.1,
-    rests_on (log_in F) F.batches (resting_of (at_end x)) F refl refl rests.0 finds.found.place.read (whole fs F is finds x all).0 read'.current,
+    rests_on (log_in F) F.batches (resting_of (at_end x)) F refl refl rests.0 finds.found.place.read (place_whole fs F is finds x (read_of fs F is finds x all)) read'.current,
   );
 }
   where
     read' : IsBase (sizes_in F) F x.base
-    read' = (read fs F is finds x all).0
+    read' = (read_of fs F is finds x all).0
 
     rests : IsResting F × IsAtRest F
-    rests = at_rest fs F is finds x all due
+    rests = at_rest fs F is finds x (read_of fs F is finds x all) due
 
 -- ---- behind a renewal
 -- each disk that may be left spells what was read
@@ -528,33 +565,33 @@ module _
         (r : Resting) → LogsRecord x r → Renews may_leave moment left_since (at_end x) None told_rolled told_deleted told_words old new
         → Settles fs x r (may_leave new)
     settles_record r logs renews all F is finds =
-        let b = to_begin fs F is finds x all due in
-        settled_record fs F is finds x all b r (may_leave new) logs
-        (renews (log_in F) F.batches F.gates (stands_begun fs F is finds x all b) (names fs F is finds x all b)
+        let b = to_begin fs F is finds x (read_of fs F is finds x all) due in
+        settled_record fs F is finds x (read_of fs F is finds x all) b refl r (may_leave new) logs
+        (renews (log_in F) F.batches F.gates (stands_begun fs F is finds x (read_of fs F is finds x all) b) (names fs F is finds x (read_of fs F is finds x all) b)
         (read_spells fs F (may_leave old) (IsAppending (log_in F) F.batches F.gates) is only (inl finds.found)))
 
     pub stops_record :
         Stops may_leave moment left_since (at_end x) None told_rolled told_deleted told_words old new → ReadsAll fs x
         → StopsAlike may_leave moment left_since fs old new
     stops_record stops all F is finds =
-        let b = to_begin fs F is finds x all due in
+        let b = to_begin fs F is finds x (read_of fs F is finds x all) due in
         weaker moment left_since old new (SpellsSome (AnyStage (log_in F) F.batches F.gates)) (λ c. may_leave old c ⊎ SpellsOnWay F c)
-        (stops (log_in F) F.batches F.gates (stands_begun fs F is finds x all b) (names fs F is finds x all b)
+        (stops (log_in F) F.batches F.gates (stands_begun fs F is finds x (read_of fs F is finds x all) b) (names fs F is finds x (read_of fs F is finds x all) b)
         (read_spells fs F (may_leave old) (IsAppending (log_in F) F.batches F.gates) is only (inl finds.found)))
-        (λ c q. inr (q.0, q.1, way_to fs F is finds x all b q.0 q.2))
+        (λ c q. inr (q.0, q.1, way_to fs F is finds x (read_of fs F is finds x all) b q.0 q.2))
 
   module _ (p : Standing) (due : due_of x ≡ dues.Image p) where
     stands_due :
-        (F : Files) (is : Spells fs F) (finds : FindsIt F) (all : ReadsAll fs x) (w : EndsSo fs F is finds x all p)
+        (F : Files) (is : Spells fs F) (finds : FindsIt F) (all : ReadsAll fs x) (w : EndsSo fs F is finds x (read_of fs F is finds x all) p)
         → IsStanding w.0.log w.0.batches F.gates p told_words
-    stands_due F is finds all w = subst (λ z. IsStanding w.0.log w.0.batches F.gates z told_words) (sym w.3) (stands_ended fs F is finds x all w.0 w.1 w.2)
+    stands_due F is finds all w = subst (λ z. IsStanding w.0.log w.0.batches F.gates z told_words) (sym w.3) (stands_ended fs F is finds x (read_of fs F is finds x all) w.0 w.1 w.2)
 
     pub settles_image :
         (r : Resting) → WritesImage x r → Renews may_leave moment left_since p (Some x.reloaded.end) [] [] told_words old new
         → Settles fs x r (may_leave new)
     settles_image r writes renews all F is finds =
-        let w = ends_so fs F is finds x all p due in
-        settled_image fs F is finds x all w.0 w.1 w.2 r (may_leave new) writes
+        let w = ends_so fs F is finds x (read_of fs F is finds x all) p due in
+        settled_image fs F is finds x (read_of fs F is finds x all) w.0 w.1 w.2 refl r (may_leave new) writes
         (renews w.0.log w.0.batches F.gates (stands_due F is finds all w) tt
         (read_spells fs F (may_leave old) (IsLogged w.0.log w.0.batches F.gates) is only w.0.logged))
 
@@ -562,8 +599,8 @@ module _
         Stops may_leave moment left_since p (Some x.reloaded.end) [] [] told_words old new → ReadsAll fs x
         → StopsAlike may_leave moment left_since fs old new
     stops_image stops all F is finds =
-        let w = ends_so fs F is finds x all p due in
+        let w = ends_so fs F is finds x (read_of fs F is finds x all) p due in
         weaker moment left_since old new (SpellsSome (IsMoving w.0.log w.0.batches F.gates)) (λ c. may_leave old c ⊎ SpellsOnWay F c)
         (stops w.0.log w.0.batches F.gates (stands_due F is finds all w) tt
         (read_spells fs F (may_leave old) (IsLogged w.0.log w.0.batches F.gates) is only w.0.logged))
-        (λ c q. inr (q.0, q.1, way_on fs F is finds x all w.0 w.1 w.2 q.0 q.2))
+        (λ c q. inr (q.0, q.1, way_on fs F is finds x (read_of fs F is finds x all) w.0 w.1 w.2 q.0 q.2))

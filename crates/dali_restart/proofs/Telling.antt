@@ -174,19 +174,23 @@ module _ (fs : Disk) (F : Files) (is : Spells fs F) (finds : FindsIt F) where
       flat_map-append (λ b. b) (drop behind.0 bs) more
       ∙ (ap (λ l. l ++ records_of more) behind.2 ∙ (sym (drop-append-le F.first K (records_of more) fits.fits.count) ∙ ap (drop F.first) whole))
 
+  pub tail_behind : (B : List (List Record)) (end : ℕ) → TailOf fs.log F.place B end → ReadsBehind F B × (end ≡ sum_by batch_length F.batches)
+  tail_behind B end there =
+      let same = one_tail fs.log F.place B tail end is.end there tail_is in (
+        record {
+          older = take behind.0 bs;
+          batches = parted ∙ ap (λ l. take behind.0 bs ++ l) (sym same.0);
+          place = behind.1;
+          records = ap records_of same.0 ∙ tail_records;
+        },
+        same.1 ∙ ends_at fs.log F.batches is.end is.log,
+      )
+
   pub read_behind : (o : Reloaded) (r : IsReloaded fs.log (sizes_in F) F o) → ReadsBehind F r.batches
-  read_behind o r =
-      let same = (one_tail fs.log F.place r.batches tail o.end is.end r.tail tail_is).0 in
-      record {
-        older = take behind.0 bs;
-        batches = parted ∙ ap (λ l. take behind.0 bs ++ l) (sym same);
-        place = behind.1;
-        records = ap records_of same
-            ∙ tail_records;
-      }
+  read_behind o r = (tail_behind r.batches o.end r.tail).0
 
   -- whoever reads them
-  right : IsRightAtEnd s (log_in F) F (goes_through s F (drop F.first (log_in F)))
+  pub right : IsRightAtEnd s (log_in F) F (goes_through s F (drop F.first (log_in F)))
   right =
       let f = spelled_out.fits in
       subst (λ (L : List Record). IsRightAtEnd s L F (goes_through s F (drop F.first L))) whole

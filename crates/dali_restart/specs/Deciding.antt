@@ -9,11 +9,13 @@
 --     LogsRecord x r           where it begins behind the record of this restart
 --     WritesImage x r          and where it begins where that record stood there already
 --     IsSmallRest x r          its numbers are in range
+--     Asked                    what a renewal is asked to write
+--     record_of x, image_of p x    the record of the restart and the image; the image alone
 --     IsWritten                what a renewal made of the stages of a restart, and what a crash at any moment of it leaves
 --     WritesOrFails            it fails by the store exactly where the count of faults rose; where it fails otherwise nothing was written
 --     IsRestingOn M B r G      the files G have these batches, and a run may start from them over the log M, where the vault is told this end and number
 --     IsSettled, Settles       so it is of each disk that a crash may leave then, where the disk that was read spells files that are found
-use Rattle.std.specs.Prelude.{◌≡◌, ◌⊎◌, ◌<◌, ◌≤◌, ◌+◌, ◌-◌, ◌^◌, ◌==◌, ℕ, ⊤, Contains, List, Option, Some, None, Result, OnOk, OnErr, IfSome, is_some, if◌then◌else◌, map, nat_le, length}
+use Rattle.std.specs.Prelude.{◌≡◌, ◌⊎◌, ◌<◌, ◌≤◌, ◌+◌, ◌-◌, ◌^◌, ◌==◌, ℕ, ⊤, Contains, List, [], Option, Some, None, Result, OnOk, OnErr, IfSome, is_some, if◌then◌else◌, map, nat_le, length}
 use Rattle.dali_geometry.specs.Sizes.{Sizes}
 use Rattle.dali_record.specs.declared.records.Record.{Record}
 use Rattle.dali_record.specs.Damage.{Damage}
@@ -23,6 +25,7 @@ use Rattle.dali_history.specs.History.{IsHistory}
 use Rattle.dali_store.specs.Calls.{PassesFewer}
 use Rattle.dali_store.specs.Faults.{Rose}
 use Rattle.dali_store.specs.Store.{Files as Disk, Only}
+use Rattle.dali_store.specs.declared.store.Store.{Ghosts}
 use Rattle.dali_log.specs.Stream.{Reading}
 use Rattle.dali_runs.specs.Run.{log_in}
 use Rattle.dali_runs.specs.State.{VaultState}
@@ -37,7 +40,7 @@ use Rattle.dali_recovery.specs.Reload.Reading.{IsAtImage, IsReloaded}
 use Rattle.dali_recovery.specs.Reload.Scanning.{AreFound, AreSmall, FindsDamage, told_of}
 use Rattle.dali_recovery.specs.declared.reload.counts.BeforeRestart.{BeforeRestart}
 use Rattle.dali_restart.specs.Renewal.Logged.{restart_of}
-use Rattle.dali_restart.specs.Renewal.Renewed.{Renews, Stops, end_of}
+use Rattle.dali_restart.specs.Renewal.Renewed.{Keeps, Renews, Stops, end_of}
 use Rattle.dali_restart.specs.declared.renewal.renewing.Standing.{Standing}
 use Rattle.dali_restart.specs.Rise.Behind.{resting_behind}
 use Rattle.dali_restart.specs.Rise.Risen.{IsAtLog}
@@ -146,18 +149,34 @@ pub record IsSmallRest (x : Found) (r : Resting) : Type 0 where
   pub next : r.next < 2 ^ 63
   pub geometry : r.geometry ≡ x.base.geometry
 
-module _ {V : Type 0} (told : V → Option Disk) (may_leave : V → Disk → Type 0) (moment : V → ℕ) (left_since : V → ℕ → Disk → Type 0) where
-  pub record IsWritten {T E : Type 0} (p : Standing) (logged : Option ℕ) (rs ds : List ℕ) (words : List (List ℕ)) (old new : V) (result : Result T E) : Type 0 where
-    pub renews : OnOk result (IfSome (told old) (λ _. Renews may_leave moment left_since p logged rs ds words old new))
-    pub stops : IfSome (told old) (λ _. Stops may_leave moment left_since p logged rs ds words old new)
+pub record Asked : Type 0 where
+  pub standing : Standing
+  -- where the log ends behind the record, if that stands there already
+  pub logged : Option ℕ
+  pub rolled : List ℕ
+  pub deleted : List ℕ
+  pub words : List (List ℕ)
 
-pub record WritesOrFails {V T E : Type 0} (told : V → Option Disk) (faults : V → ℕ) (lets_pass : V → Option ℕ) (failed : Type 0) (old new : V) (result : Result T E) : Type 0 where
-  pub untouched : (failed → ⊥) → OnErr result (new ≡ old)
-  pub tells : is_some (told new) ≡ is_some (told old)
-  pub later : faults old ≤ faults new
-  pub fault : failed → Rose (faults old) (faults new)
-  pub kept : (failed → ⊥) → faults new ≡ faults old
-  pub passes : PassesFewer (lets_pass old) (lets_pass new)
+abbrev pub record_of : Found → Asked
+record_of x =
+    let o = x.reloaded.recovered in record { standing = at_end x; logged = None; rolled = o.rolled_back.items; deleted = o.deleted.items; words = o.regions.items }
+
+abbrev pub image_of : Standing → Found → Asked
+image_of p x = record { standing = p; logged = Some x.reloaded.end; rolled = []; deleted = []; words = x.reloaded.recovered.regions.items }
+
+module _ {V : Type 0} (means : Ghosts V) where
+  pub record IsWritten {T E : Type 0} (a : Asked) (old new : V) (result : Result T E) : Type 0 where
+    pub renews : OnOk result (IfSome (means.told old) (λ _. Renews means.may_leave means.moment means.left_since a.standing a.logged a.rolled a.deleted a.words old new))
+    pub stops : IfSome (means.told old) (λ _. Stops means.may_leave means.moment means.left_since a.standing a.logged a.rolled a.deleted a.words old new)
+    pub keeps : IfSome (means.told old) (λ _. Keeps means.may_leave means.moment means.left_since a.standing a.logged a.rolled a.deleted a.words old new)
+
+  pub record WritesOrFails {T E : Type 0} (failed : Type 0) (old new : V) (result : Result T E) : Type 0 where
+    pub untouched : (failed → ⊥) → OnErr result (new ≡ old)
+    pub tells : is_some (means.told new) ≡ is_some (means.told old)
+    pub later : means.faults old ≤ means.faults new
+    pub fault : failed → Rose (means.faults old) (means.faults new)
+    pub kept : (failed → ⊥) → means.faults new ≡ means.faults old
+    pub passes : PassesFewer (means.lets_pass old) (means.lets_pass new)
 
 -- ---- files that are found
 pub record IsRestingOn (M : List Record) (B : List (List Record)) (r : Resting) (G : Files) : Type 0 where

@@ -8,6 +8,7 @@
 --     IsPlaced s                     the start of a run that has no checkpoint's image, or whose log has a record behind the format
 --     CrashRestartsRight             they answer right: of each crash image that came along any steps of a run with its store, and of each inside one step
 --                                    more, where no audit missed a stray write
+--     CrashIsFoundBut                whatever an audit missed, the files of each crash image are found but for the words of their image
 --     IsUndamaged before c E o       the answer is right, and nobody of the last epoch is deleted
 --     UnpokedRestartsRight           so it is where there was no stray write
 use Rattle.std.specs.Prelude.{◌≡◌, ◌⊎◌, ◌<◌, false, List, [], ◌∷◌, length}
@@ -28,7 +29,7 @@ use Rattle.dali_crash.specs.Unpoked.{store_pokes}
 use Rattle.dali_crash.specs.Disks.Disks.{Spells}
 use Rattle.dali_resume.specs.Again.{Outcome}
 use Rattle.dali_resume.specs.Interrupted.Found.{NoneMissed}
-use Rattle.dali_restart.specs.Restarting.{Gives, IsOnWay, told_by}
+use Rattle.dali_restart.specs.Restarting.{FindsBut, Gives, IsOnWay, told_by}
 
 abbrev pub OnWayGoesOn : Type 0
 OnWayGoesOn = (F G H : Files) → IsOnWay F G → IsOnWay G H → IsOnWay F H
@@ -62,6 +63,12 @@ CrashRestartsRight =
     (s : Start) (D : Files) → StartsAt s D → IsPlaced s
     → (xs : List StoreStep) (p : Point) (E : Files) → Traced (start_point s) D xs p E → NoneMissed p.core
     → RestartsSo s p E
+
+abbrev pub CrashIsFoundBut : Type 0
+CrashIsFoundBut =
+    (s : Start) (D : Files) → StartsAt s D → IsPlaced s
+    → (xs : List StoreStep) (p : Point) (E : Files) → Traced (start_point s) D xs p E
+    → FindsBut E
 
 -- behind a damaged epoch its lists are told again until a record stands in the next one
 pub record IsUndamaged (before : List Record) (c : CoreState) (E : Files) (o : Outcome) : Type 0 where

@@ -9,6 +9,10 @@
 --     SpellsOnWay F c          the disk c spells such files
 --     LeavesAtRest fs c        so it does where fs spells files that are found, and no record stands behind their image, or one of a restart alone
 --     StopsAlike fs old new    a crash at any moment leaves what it might have left before, or such a disk, where fs spells files that are found
+--     FindsBut F               files that are found, but for the words of their image, as where memory was written astray and no audit saw it
+--     IsLaterOf F G            so are the files G, whose log is that of F, or has one record more, that of the restart
+--     StopsAppending fs old new    a crash at any moment leaves what it might have left before, or a disk that spells such files, where fs spells files
+--                              that are found but for those words: so the log is only added to
 --     StaysIdle fs old new     where they have no record behind their image, or one of a restart alone, the store is only read
 --     IsLeft old new           what a crash at any moment leaves, and what else is so whatever is answered
 --     IsFresh                  a core that was just made: no operation, transaction or lock, and a vault that runs
@@ -111,10 +115,31 @@ IsAtRest G = (drop G.first (log_in G) ≡ []) ⊎ ((rs ds : List ℕ) × (drop G
 abbrev pub LeavesAtRest : Disk → Disk → Type 0
 LeavesAtRest fs c = (F : Files) → Spells fs F → FindsIt F → (G : Files) × Spells c G × IsOnWay F G × IsAtRest G
 
+-- ---- files that are found, but for the words of their image
+abbrev pub with_words : Files → List (List ℕ) → Files
+with_words F image = record F { image = image }
+
+pub record FindsBut (F : Files) : Type 0 where
+  -- the words that it would have
+  pub right : List (List ℕ)
+  pub words : AllAreWords right
+  pub finds : FindsIt (with_words F right)
+
+pub record IsLaterOf (F G : Files) : Type 0 where
+  pub finds : FindsBut G
+  pub log : GoesOnFrom (log_in F) (log_in G)
+
+abbrev pub SpellsLater : Files → Disk → Type 0
+SpellsLater F c = (G : Files) × Spells c G × IsLaterOf F G
+
 module _ {V : Type 0} (may_leave : V → Disk → Type 0) (moment : V → ℕ) (left_since : V → ℕ → Disk → Type 0) where
   -- what might have been left before, as where a sync is cut short; or what says the same as the files that reads gave
   abbrev pub StopsAlike : Disk → V → V → Type 0
   StopsAlike fs old new = (F : Files) → Spells fs F → FindsIt F → LeavesOnly moment left_since old new (λ c. may_leave old c ⊎ SpellsOnWay F c)
+
+  -- whatever words the image has
+  abbrev pub StopsAppending : Disk → V → V → Type 0
+  StopsAppending fs old new = (F : Files) → Spells fs F → FindsBut F → LeavesOnly moment left_since old new (λ c. may_leave old c ⊎ SpellsLater F c)
 
 module _ {V : Type 0} (told : V → Option Disk) (may_leave : V → Disk → Type 0) (moment : V → ℕ) (left_since : V → ℕ → Disk → Type 0) where
   abbrev pub StaysIdle : Disk → V → V → Type 0
@@ -123,6 +148,7 @@ module _ {V : Type 0} (told : V → Option Disk) (may_leave : V → Disk → Typ
 module _ {V : Type 0} (means : Ghosts V) where
   pub record IsLeft (old new : V) : Type 0 where
     pub any_moment : IfSome (means.told old) (λ fs. StopsAlike means.may_leave means.moment means.left_since fs old new)
+    pub appends : IfSome (means.told old) (λ fs. StopsAppending means.may_leave means.moment means.left_since fs old new)
     -- and so reads the store that comes back
     pub comes_back : IfSome (means.told old) (λ fs. IfSome (means.told new) (λ gs. (F : Files) → Spells fs F → FindsIt F → SpellsOnWay F gs))
     pub tells : is_some (means.told new) ≡ is_some (means.told old)

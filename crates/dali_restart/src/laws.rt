@@ -1,5 +1,5 @@
 //! Laws of what `open` finds and what `restart` reads, each the contract of a function that does nothing.
-ghost use Rattle.dali_restart.specs.Headline.{CrashRestartsRight, OnWayGoesOn, UnpokedRestartsRight};
+ghost use Rattle.dali_restart.specs.Headline.{CrashIsFoundBut, CrashRestartsRight, OnWayGoesOn, UnpokedRestartsRight};
 ghost use Rattle.dali_restart.specs.Laws.{WhatOpensIsSpelled, OneAnswer, OpensOnce, ReadsOnce, IsBadOnce, FoundIsGood, FitIsFound, ClosedFormatIsFound};
 
 /// Where the log is one from its first batch to its end, the disk spells files with just what was found: the sizes, the
@@ -59,4 +59,10 @@ pub fn a_crash_of_a_run_restarts_right()
     ensures right { CrashRestartsRight }
     ensures again { OnWayGoesOn }
     ensures unpoked { UnpokedRestartsRight }
+{}
+
+/// Whatever stray writes its audits missed, what a crash of a run leaves is found but for the words of its image. So a restart of
+/// it, at each moment of it and whatever it answers, leaves all records of its log (`appends` of `restart`).
+pub fn a_crash_of_a_run_keeps_its_log()
+    ensures { CrashIsFoundBut }
 {}

@@ -1,5 +1,5 @@
 //! A restart: what a log says of its records is recovered, written, and handed out as a core.
-ghost use Rattle.std.specs.Prelude.{◌≡◌, ◌≤◌, ◌<◌, ◌^◌, ◌⊎◌, ℕ, IfOk, IfErr, IfSome, IsErrOf, MatchResult, Some, None, []};
+ghost use Rattle.std.specs.Prelude.{◌≡◌, ◌≤◌, ◌<◌, ◌^◌, ◌⊎◌, ◌↔◌, ℕ, IfOk, IfErr, IfSome, IsErrOf, MatchResult, None};
 ghost use Rattle.std.specs.List.{AllByRecursion};
 ghost use Rattle.dali_record.specs.Blocks.{AreWords, AllAreWords};
 ghost use Rattle.dali_store.specs.declared.store.FileName.{FileName as Name};
@@ -15,8 +15,9 @@ ghost use Rattle.dali_restart.specs.Renewal.Renewed.{AreReady};
 ghost use Rattle.dali_restart.specs.declared.error.RestartError.TheVariants as errors;
 ghost use Rattle.dali_restart.specs.declared.restarting.Due.TheVariants as dues;
 ghost use Rattle.dali_restart.specs.Opening.{IsBadStore};
-ghost use Rattle.dali_restart.specs.Restarting.{outcome, Gives, IsReadAs, IsBadAnywhere, IsFresh, IsLeft, BeginsRun, LeavesAtRest, StaysIdle, StopsAlike};
-ghost use Rattle.dali_restart.specs.Deciding.{IsInRoom, IsBegunIn, IsReadIn, IsInOrder, FindsNext, IfRead, IfLost, at_end, due_of, resting_of, LogsRecord, WritesImage, IsSmallRest, IsWritten, WritesOrFails, Settles};
+ghost use Rattle.dali_restart.specs.Restarting.{outcome, Gives, IsReadAs, IsBadAnywhere, IsFresh, IsLeft, BeginsRun, LeavesAtRest, StaysIdle, StopsAlike, StopsAppending};
+ghost use Rattle.dali_restart.specs.Short.{DoesNotFit};
+ghost use Rattle.dali_restart.specs.Deciding.{IsInRoom, IsBegunIn, IsReadIn, IsInOrder, FindsNext, IfRead, IfLost, at_end, due_of, resting_of, record_of, image_of, LogsRecord, WritesImage, IsSmallRest, IsWritten, WritesOrFails, Settles};
 
 use crate::error::{Refused, RestartError};
 use crate::opening::{Opened, open};
@@ -273,11 +274,10 @@ fn log_record<V: Store>(
     ensures ok { IfOk result (λ rest. LogsRecord found.now rest) }
     ensures small { IfOk result (λ rest. IsSmallRest found.now rest) }
     ensures ready { IfOk result (λ rest. IfSome (V.told store.old) (λ _. AreReady (V.may_leave store.new) rest.end rest.current)) }
-    ensures written { IsWritten V.told V.may_leave V.moment V.left_since (at_end found.now) None found.now.reloaded.recovered.rolled_back.items found.now.reloaded.recovered.deleted.items
-        found.now.reloaded.recovered.regions.items store.old store.new result }
+    ensures written { IsWritten V.Store (record_of found.now) store.old store.new result }
     ensures errors { IfErr result (λ e. (e ≡ errors.Fault) ⊎ (e ≡ errors.OutOfMemory) ⊎ (e ≡ errors.TooLong)) }
-    ensures long { IsErrOf result errors.TooLong → 2 ^ 30 < restart_length found.now.reloaded.recovered.rolled_back.items found.now.reloaded.recovered.deleted.items }
-    ensures store { WritesOrFails V.told V.faults V.lets_pass (IsErrOf result errors.Fault) store.old store.new result }
+    ensures long { IsErrOf result errors.TooLong ↔ (2 ^ 30 < restart_length found.now.reloaded.recovered.rolled_back.items found.now.reloaded.recovered.deleted.items) }
+    ensures store { WritesOrFails V.Store (IsErrOf result errors.Fault) store.old store.new result }
 {
     let whole = end_of(found);
     let Recovered {
@@ -311,9 +311,9 @@ fn write_image<V: Store>(
     ensures ok { IfOk result (λ rest. WritesImage found.now rest) }
     ensures small { IfOk result (λ rest. IsSmallRest found.now rest) }
     ensures ready { IfOk result (λ rest. IfSome (V.told store.old) (λ _. AreReady (V.may_leave store.new) rest.end rest.current)) }
-    ensures written { IsWritten V.told V.may_leave V.moment V.left_since standing.now (Some found.now.reloaded.end) [] [] found.now.reloaded.recovered.regions.items store.old store.new result }
+    ensures written { IsWritten V.Store (image_of standing.now found.now) store.old store.new result }
     ensures errors { IfErr result (λ e. (e ≡ errors.Fault) ⊎ (e ≡ errors.OutOfMemory)) }
-    ensures store { WritesOrFails V.told V.faults V.lets_pass (IsErrOf result errors.Fault) store.old store.new result }
+    ensures store { WritesOrFails V.Store (IsErrOf result errors.Fault) store.old store.new result }
 {
     let whole = end_of(found);
     let regions = &found.reloaded.recovered.regions;
@@ -337,9 +337,12 @@ fn settle<V: Store>(alloc: Global, store: &mut V, found: &Found) -> Result<Resti
     ensures settles { IfOk result (λ rest. IfSome (V.told store.old) (λ fs. Settles fs found.now rest (V.may_leave store.new))) }
     ensures any_moment { IfSome (V.told store.old) (λ fs. StopsAlike V.may_leave V.moment V.left_since fs store.old store.new) }
     ensures errors { IfErr result (λ e. (e ≡ errors.Fault) ⊎ (e ≡ errors.OutOfMemory) ⊎ (e ≡ errors.TooLong)) }
-    ensures long { IsErrOf result errors.TooLong → 2 ^ 30 < restart_length found.now.reloaded.recovered.rolled_back.items found.now.reloaded.recovered.deleted.items }
-    ensures store { WritesOrFails V.told V.faults V.lets_pass (IsErrOf result errors.Fault) store.old store.new result }
+    ensures appends { IfSome (V.told store.old) (λ fs. StopsAppending V.may_leave V.moment V.left_since fs store.old store.new) }
+    ensures long { IsErrOf result errors.TooLong ↔ ((due_of found.now ≡ dues.Record)
+        × (2 ^ 30 < restart_length found.now.reloaded.recovered.rolled_back.items found.now.reloaded.recovered.deleted.items)) }
+    ensures store { WritesOrFails V.Store (IsErrOf result errors.Fault) store.old store.new result }
 {
+    tell_all(&found.reloaded.recovered.regions);
     match decide(found) {
         Due::Nothing => Ok(rest_at(&end_of(found))),
         Due::Record => log_record(alloc, store, found),
@@ -359,12 +362,15 @@ fn settle<V: Store>(alloc: Global, store: &mut V, found: &Found) -> Result<Resti
 /// out what their log says. Where that is a history the records are exactly those of the surviving transactions, replayed one
 /// after another in commit order. It names exactly the rolled back and the deleted of the last epoch that has a record (`gives`).
 /// A stop at any moment of it leaves files of which a restart hands out the same, or what a crash might have left before it. The
-/// store that comes back, with an error or in the core, reads as files of which a restart hands out the same (`any_moment`).
+/// store that comes back, with an error or in the core, reads as files of which a restart hands out the same (`any_moment`). Of
+/// files that are such but for the words of their image, as where an audit missed a stray write, the log is only added to: it
+/// stays, or has the record of the restart behind it, at each moment and whatever is answered (`appends`).
 ///
 /// `Unformatted` exactly where the log has fewer than two bytes or its first gate is closed; such files are only read, whatever is
 /// answered (`none`). `BadStore` exactly where the files are bad: in the log's first batch, else in the anchor, else in the
 /// current image, else in the log from the image's place on. `Fault` exactly where the store's count of faults rose. `TooLong`
-/// only where the restart's record would have more than the 2^30 bytes of a batch; then the store was only read. `Unsteady` where
+/// only where the restart's record would have more than the 2^30 bytes of a batch; then the store was only read. Where it would
+/// there is no core (`fits`), and once the files are read there is no other answer. `Unsteady` where
 /// a store gave other bytes when it was read again, which none does that tells its contents. `OutOfMemory` where memory is
 /// refused. It takes memory for the regions, once more for their words and twice while the image is read, and for what the last
 /// epoch's transactions and marked words need; not for the log.
@@ -397,6 +403,8 @@ pub fn restart<V: Store>(
     ensures formatted { IfErr result (λ refused. refused.error ≡ errors.Formatted → ⊥) }
     ensures long { IfErr result (λ refused. refused.error ≡ errors.TooLong →
         IfSome (V.told store) (λ fs. (o : Outcome) × IsReadAs fs o × (2 ^ 30 < restart_length o.rolled o.deleted))) }
+    // Where that record doesn't fit a batch no core is handed out.
+    ensures fits { IfOk result (λ made. IfSome (V.told store) (λ fs. (o : Outcome) → DoesNotFit fs o → ⊥)) }
     ensures steady { IfErr result (λ refused. refused.error ≡ errors.Unsteady → V.told store ≡ None) }
     ensures reads { IfErr result (λ refused. (refused.error ≡ errors.Fault → ⊥) →
         (refused.error ≡ errors.OutOfMemory → ⊥) → OnlyReads V.told V.moment V.left_since V.may_leave store refused.store) }

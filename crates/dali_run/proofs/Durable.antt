@@ -10,6 +10,7 @@ use Rattle.dali_arguments.specs.declared.task.Task.TheVariants.{Run, Generate, D
 use Rattle.dali_log.specs.Batch.{IsUnformatted}
 use Rattle.dali_log.specs.Formatting.{FormatLeaves, HasFirst}
 use Rattle.dali_log.specs.Reads.{OnlyReads}
+use Rattle.dali_log.proofs.Unique.{log_is_formatted}
 use Rattle.dali_checkpoint.proofs.Calls.{course_join}
 use Rattle.dali_transcripts.specs.Clients.Said.{Transcribed}
 use Rattle.dali_crash.specs.Checkpoints.{Does, Point}
@@ -25,9 +26,10 @@ use Rattle.dali_record.specs.Legal.{IsLegalFor, sizes_of as sizes_in}
 use Rattle.dali_region.specs.State.{RegionState}
 use Rattle.dali_restart.specs.Formatted.{first_body, first_record}
 use Rattle.dali_restart.specs.Headline.{IsPlaced}
-use Rattle.dali_restart.specs.Restarting.{outcome, BeginsRun, IsReadAs, SpellsOnWay, StopsAlike}
+use Rattle.dali_restart.specs.Restarting.{outcome, BeginsRun, FindsBut, IsReadAs, SpellsLater, SpellsOnWay, StopsAlike, StopsAppending}
 use Rattle.dali_restart.proofs.Once.{reads_once}
-use Rattle.dali_restart.proofs.Telling.{found_good}
+use Rattle.dali_restart.proofs.Beginning.{begins}
+use Rattle.dali_restart.proofs.Missed.{crash_is_found_but}
 use Rattle.dali_round.specs.Leads.{lines_in, BeginsAt}
 use Rattle.dali_round.specs.Moments.{IsRightBetween}
 use Rattle.dali_script.specs.declared.commands.Command.{Command}
@@ -56,7 +58,7 @@ use Rattle.dali_run.specs.declared.program.Program.{Program}
 use Rattle.dali_run.specs.declared.program.Program.TheVariants.{Up, Down}
 use Rattle.dali_run.specs.declared.status.Status.{Status}
 use Rattle.dali_run.specs.declared.status.Status.TheVariants.{Done, BadWords, BadScript, TooLong, ReadFault, WriteFault, StoreFault, BadStore, Unformatted, Formatted, StoreUnsteady, RecordTooLong, OutOfMemory, LogFull, TooSmall, NotLoaded}
-use Rattle.dali_run.specs.Durable.{IsDurable, NoneMissedIn, NoneMissedBy, DurableLeft, DurableWithin, DurableAlong, StoppedIsDurable, WantingIsDurable, ScriptIsDurable, TaskIsDurable, AcknowledgedStay}
+use Rattle.dali_run.specs.Durable.{IsDurable, NoneMissedIn, IsSound, SoundWhere, ComesUp, DurableLeft, DurableWithin, DurableAlong, StoppedIsDurable, WantingIsDurable, ScriptIsDurable, TaskIsDurable, AcknowledgedStay}
 use Rattle.dali_run.specs.Ends.{Course, Ended, EndedScript, HasStopped, Untouched}
 use Rattle.dali_run.specs.Fails.{AloneFails, Breaks, Fails, Lost, StoreFailsIn}
 use Rattle.dali_run.specs.Headline.{KeepsIn, oks_by, transactions_in}
@@ -74,7 +76,18 @@ use Rattle.dali_run.proofs.OnlyRead.{Reads, read_begins, unread}
 use Rattle.dali_run.proofs.Poked.{course_runs}
 use Rattle.dali_run.proofs.Surviving.{at_start, begins_all, begins_none, begins_then, cleaned_vault, first_holds, fit_front, front_of, fused_begins, goes_on_from, grown_more, next_fit, no_heads, no_words, none_synced, size_point, tells_on, told_there}
 
--- ---- files that a crash leaves, whose log is lawful, and no history where damage escaped before
+-- ---- files that a crash leaves, whose log is lawful, and no history where damage escaped before. The words of the image may be others, where an audit missed stray
+-- writes
+record FoundBut (base : List Record) (c : Disk) : Type 0 where
+  files : Files
+  spells : Spells c files
+  finds : FindsBut files
+  begins : BeginsWith base (log_in files)
+
+abbrev Loose : List Record → Disk → Type 0
+Loose base c = (IsUnformatted c.log × (base ≡ [])) ⊎ FoundBut base c
+
+-- files whose image is right
 record FoundLog (base : List Record) (c : Disk) : Type 0 where
   files : Files
   spells : Spells c files
@@ -91,17 +104,25 @@ holds_found : (base : List Record) (c : Disk) → Holds base c → Found base c
 holds_found base c (inl none) = inl none
 holds_found base c (inr has) = inr (has_found base c has)
 
-found_durable : (kept : List Transaction) (base : List Record) (c : Disk) → AllIn kept base → Found base c → IsDurable kept c
-found_durable kept base c all (inl none) = inl (none.0, none_of_none kept (subst (AllIn kept) none.1 all))
-found_durable kept base c all (inr has) = inr (has.files, has.spells, made_in kept (sizes_in (log_in has.files)) base (log_in has.files) has.finds.lawful.legal has.begins all)
+found_loose : (base : List Record) (c : Disk) → Found base c → Loose base c
+found_loose base c (inl none) = inl none
+found_loose base c (inr has) =
+    inr (record { files = has.files; spells = has.spells; finds = record { right = has.files.image; words = (begins c has.files has.spells has.finds).words; finds = has.finds }; begins = has.begins })
 
-found_none : (base : List Record) (fs : Disk) → IsUnformatted fs.log → Found base fs → base ≡ []
+found_durable : (kept : List Transaction) (base : List Record) (c : Disk) → AllIn kept base → Loose base c → IsDurable kept c
+found_durable kept base c all (inl none) = inl (none.0, none_of_none kept (subst (AllIn kept) none.1 all))
+found_durable kept base c all (inr has) = inr (has.files, has.spells, made_in kept (sizes_in (log_in has.files)) base (log_in has.files) has.finds.finds.lawful.legal has.begins all)
+
+found_none : (base : List Record) (fs : Disk) → IsUnformatted fs.log → Loose base fs → base ≡ []
 found_none base fs without (inl none) = none.1
-found_none base fs without (inr has) = absurd ((found_good fs has.files has.spells has.finds).formatted without)
+found_none base fs without (inr has) = absurd (log_is_formatted fs.log has.files.batches has.spells.end has.spells.log without)
 
 module _ {V : Type 0} (g : Ghosts V) where
   abbrev Owns : List Record → V → Type 0
   Owns base s = (is_some (g.told s) ≡ true) × ((c : Disk) → g.may_leave s c → Found base c)
+
+  abbrev OwnsBut : List Record → V → Type 0
+  OwnsBut base s = (is_some (g.told s) ≡ true) × ((c : Disk) → g.may_leave s c → Loose base c)
 
   -- a core at a point of a run, which may have begun with a log that is no history
   record Live (base : List Record) (core : Core (Fuse V)) : Type 0 where
@@ -120,7 +141,12 @@ module _ {V : Type 0} (g : Ghosts V) where
 
   abbrev IsThere : List Record → Program V → Type 0
   IsThere base (Up core) = Live base core
-  IsThere base (Down store) = Owns base (inner store)
+  IsThere base (Down store) = OwnsBut base (inner store)
+
+  -- a restart finds it, where no audit missed a stray write in the memory that was given up
+  abbrev FoundWhere : Type 0 → List Record → Program V → Type 0
+  FoundWhere sound base (Up core) = Unit {0}
+  FoundWhere sound base (Down store) = sound → Owns base (inner store)
 
   live_point : (base : List Record) (core : Core (Fuse V)) → IsPointOf g base core → Live base core
   live_point base core a = record { tells = a.tells; start = a.start; placed = a.placed; batches = a.batches; point = a.point; begins = a.begins; flushed = a.flushed }
@@ -158,11 +184,37 @@ module _ {V : Type 0} (g : Ghosts V) where
                 (subst (λ (l : List Record). BeginsWith l (take prefix.count a.point.log)) (sym a.flushed) (front_of (stable a.point.core) prefix.count a.point.log prefix.flushed));
           }
 
-  owns_there : (base : List Record) (p : Program V) → NoneMissedIn p → IsThere base p → Owns base (inner (store_of p))
-  owns_there base (Up core) none a = live_owns base core none a
-  owns_there base (Down store) none a = a
+  -- and but for the words of the image it does, whatever it missed
+  live_owns_but : (base : List Record) (core : Core (Fuse V)) → Live base core → OwnsBut base (inner core.vault.store)
+  live_owns_but base core a = (a.tells, λ c may. inr (found c may))
+    where
+      found : (c : Disk) → g.may_leave (inner core.vault.store) c → FoundBut base c
+      found c may =
+          let one = (told_there (told_in g core.vault.store) a.tells a.begins.stands.at.vault.files) c may in
+          let t = one.2 in
+          let prefix = trace_prefix a.start t.first t.starts t.steps a.point one.0 t.trace in
+          record {
+            files = one.0;
+            spells = one.1;
+            finds = crash_is_found_but a.start t.first t.starts a.placed t.steps a.point one.0 t.trace;
+            begins =
+                subst (BeginsWith base) (sym prefix.log)
+                (subst (λ (l : List Record). BeginsWith l (take prefix.count a.point.log)) (sym a.flushed) (front_of (stable a.point.core) prefix.count a.point.log prefix.flushed));
+          }
 
-  owns_left : (kept : List Transaction) (base : List Record) (s : V) → AllIn kept base → Owns base s → DurableLeft g kept s
+  but_there : (base : List Record) (p : Program V) → IsThere base p → OwnsBut base (inner (store_of p))
+  but_there base (Up core) a = live_owns_but base core a
+  but_there base (Down store) a = a
+
+  owns_there : (sound : Type 0) (base : List Record) (p : Program V) → IsSound sound p → IsThere base p → FoundWhere sound base p → Owns base (inner (store_of p))
+  owns_there sound base (Up core) is a well = live_owns base core is a
+  owns_there sound base (Down store) is a well = well is
+
+  keep_well : (sound : Type 0) (base : List Record) (p : Program V) → FoundWhere sound base p → FoundWhere (IsSound sound p) base p
+  keep_well sound base (Up core) well = tt
+  keep_well sound base (Down store) well = well
+
+  owns_left : (kept : List Transaction) (base : List Record) (s : V) → AllIn kept base → OwnsBut base s → DurableLeft g kept s
   owns_left kept base s all own c may = found_durable kept base c all (own.1 c may)
 
   there_left : (kept : List Transaction) (base : List Record) (p : Program V) → AllIn kept base → IsThere base p → DurableLeft g kept (inner (store_of p))
@@ -358,46 +410,72 @@ module _ {V : Type 0} (g : Ghosts V)
       by_told None is may stops only = absurd cc
       by_told (Some fs) is may stops only = by_case fs stops only (own.1 fs may)
 
-  restarts_found : (limit : ℕ) (base : List Record) (old new : Program V) (text : List ℕ) (step : Restarts g limit old text new)
-      → Owns g base (inner (store_of old)) → Lasts g (Found base) (inner (store_of old)) (inner step.core.vault.store)
-  restarts_found limit base old new text step own = by_told (g.told (inner (store_of old))) own.0 (reads_now (inner (store_of old))) step.left.any_moment step.read
+  later_found : (base : List Record) (F : Files) (c : Disk) → BeginsWith base (log_in F) → SpellsLater F c → FoundBut base c
+  later_found base F c begins later = record {
+    files = later.0;
+    spells = later.1;
+    finds = later.2.finds;
+    begins = begins_then base (log_in F) (log_in later.0) begins (goes_on_from (log_in F) (log_in later.0) later.2.log);
+  }
+
+  either_later : (base : List Record) (old : V) (F : Files) (c : Disk) → OwnsBut g base old → BeginsWith base (log_in F) → g.may_leave old c ⊎ SpellsLater F c → Loose base c
+  either_later base old F c own begins (inl was) = own.1 c was
+  either_later base old F c own begins (inr later) = inr (later_found base F c begins later)
+
+  -- whatever the words of the image are
+  stops_loose : (base : List Record) (old f : Fuse V) → Rereads g old f → OwnsBut g base (inner old) → Lasts g (Loose base) (inner old) (inner f)
+  stops_loose base old f rereads own = by_told (g.told (inner old)) own.0 (reads_now (inner old)) rereads.left.appends rereads.none
     where
-      by_case : (fs : Disk) → StopsAlike (leaves_in g) (moment_in g) (since_in g) fs (store_of old) step.core.vault.store
-          → IsReadAs fs (outcome step.core.regions.items step.report) → Found base fs → Lasts g (Found base) (inner (store_of old)) (inner step.core.vault.store)
-      by_case fs stops read (inl none) = absurd ((reads_once fs (outcome step.core.regions.items step.report) read).2 none.0)
-      by_case fs stops read (inr has) =
-          let at = stops has.files has.spells has.finds in record { later = at.later; each = λ c left. either_way base (inner (store_of old)) has.files c own has.begins (at.each c left) }
+      by_case : (fs : Disk) → StopsAppending (leaves_in g) (moment_in g) (since_in g) fs old f
+          → (IsUnformatted fs.log → OnlyReads (told_in g) (moment_in g) (since_in g) (leaves_in g) old f) → Loose base fs → Lasts g (Loose base) (inner old) (inner f)
+      by_case fs appends only (inl none) = let at = (only none.0).any_moment in record { later = at.later; each = λ c left. own.1 c (at.each c left) }
+      by_case fs appends only (inr has) = let at = appends has.files has.spells has.finds in record { later = at.later; each = λ c left. either_later base (inner old) has.files c own has.begins (at.each c left) }
+
+      by_told : (o : Option Disk) → is_some o ≡ true → IfSome o (λ fs. g.may_leave (inner old) fs) → IfSome o (λ fs. StopsAppending (leaves_in g) (moment_in g) (since_in g) fs old f)
+          → IfSome o (λ fs. IsUnformatted fs.log → OnlyReads (told_in g) (moment_in g) (since_in g) (leaves_in g) old f) → Lasts g (Loose base) (inner old) (inner f)
+      by_told None is may appends only = absurd cc
+      by_told (Some fs) is may appends only = by_case fs appends only (own.1 fs may)
+
+  restarts_loose : (limit : ℕ) (base : List Record) (old new : Program V) (text : List ℕ) (step : Restarts g limit old text new)
+      → OwnsBut g base (inner (store_of old)) → Lasts g (Loose base) (inner (store_of old)) (inner step.core.vault.store)
+  restarts_loose limit base old new text step own = by_told (g.told (inner (store_of old))) own.0 (reads_now (inner (store_of old))) step.left.appends step.read
+    where
+      by_case : (fs : Disk) → StopsAppending (leaves_in g) (moment_in g) (since_in g) fs (store_of old) step.core.vault.store
+          → IsReadAs fs (outcome step.core.regions.items step.report) → Loose base fs → Lasts g (Loose base) (inner (store_of old)) (inner step.core.vault.store)
+      by_case fs appends read (inl none) = absurd ((reads_once fs (outcome step.core.regions.items step.report) read).2 none.0)
+      by_case fs appends read (inr has) =
+          let at = appends has.files has.spells has.finds in record { later = at.later; each = λ c left. either_later base (inner (store_of old)) has.files c own has.begins (at.each c left) }
 
       by_told : (o : Option Disk) → is_some o ≡ true → IfSome o (λ fs. g.may_leave (inner (store_of old)) fs)
-          → IfSome o (λ fs. StopsAlike (leaves_in g) (moment_in g) (since_in g) fs (store_of old) step.core.vault.store)
-          → IfSome o (λ fs. IsReadAs fs (outcome step.core.regions.items step.report)) → Lasts g (Found base) (inner (store_of old)) (inner step.core.vault.store)
-      by_told None is may stops read = absurd cc
-      by_told (Some fs) is may stops read = by_case fs stops read (own.1 fs may)
+          → IfSome o (λ fs. StopsAppending (leaves_in g) (moment_in g) (since_in g) fs (store_of old) step.core.vault.store)
+          → IfSome o (λ fs. IsReadAs fs (outcome step.core.regions.items step.report)) → Lasts g (Loose base) (inner (store_of old)) (inner step.core.vault.store)
+      by_told None is may appends read = absurd cc
+      by_told (Some fs) is may appends read = by_case fs appends read (own.1 fs may)
 
   -- ---- the making of a database
-  made_found : (index heap : ℕ) → AreInRange (sizes_of index heap) → (base : List Record) (old f : Fuse V) → Makes g index heap old f
-      → Owns g base (inner old) → Lasts g (Found base) (inner old) (inner f)
-  made_found index heap range base old f makes own = by_told (g.told (inner old)) own.0 (reads_now (inner old)) makes.any_moment
+  made_loose : (index heap : ℕ) → AreInRange (sizes_of index heap) → (base : List Record) (old f : Fuse V) → Makes g index heap old f
+      → OwnsBut g base (inner old) → Lasts g (Loose base) (inner old) (inner f)
+  made_loose index heap range base old f makes own = by_told (g.told (inner old)) own.0 (reads_now (inner old)) makes.any_moment
     where
-      by_log : (fs c : Disk) → Found base fs → IsUnformatted fs.log → FormatLeaves (g.may_leave (inner old)) (first_body (sizes_of index heap)) c
-          → IsUnformatted c.log ⊎ HasFirst (first_body (sizes_of index heap)) c → Found base c
+      by_log : (fs c : Disk) → Loose base fs → IsUnformatted fs.log → FormatLeaves (g.may_leave (inner old)) (first_body (sizes_of index heap)) c
+          → IsUnformatted c.log ⊎ HasFirst (first_body (sizes_of index heap)) c → Loose base c
       by_log fs c found without form (inl none) = inl (none, found_none base fs without found)
       by_log fs c found without form (inr first) =
-          inr
-          (subst (λ (l : List Record). FoundLog l c) (sym (found_none base fs without found))
-          (has_found [] c (first_holds (sizes_of index heap) range (g.may_leave (inner old)) c (record { others = form.others; anchor = first.anchor; log = first.log }))))
+          found_loose base c
+          (inr (subst (λ (l : List Record). FoundLog l c) (sym (found_none base fs without found))
+          (has_found [] c (first_holds (sizes_of index heap) range (g.may_leave (inner old)) c (record { others = form.others; anchor = first.anchor; log = first.log })))))
 
-      by_case : (fs c : Disk) → Found base fs → g.may_leave (inner old) c ⊎ (IsUnformatted fs.log × FormatLeaves (g.may_leave (inner old)) (first_body (sizes_of index heap)) c) → Found base c
+      by_case : (fs c : Disk) → Loose base fs → g.may_leave (inner old) c ⊎ (IsUnformatted fs.log × FormatLeaves (g.may_leave (inner old)) (first_body (sizes_of index heap)) c) → Loose base c
       by_case fs c found (inl before) = own.1 c before
       by_case fs c found (inr form) = by_log fs c found form.0 form.1 form.1.log
 
       by_told : (o : Option Disk) → is_some o ≡ true → IfSome o (λ fs. g.may_leave (inner old) fs)
           → IfSome o (λ fs. LeavesOnly (moment_in g) (since_in g) old f (λ c. g.may_leave (inner old) c ⊎ (IsUnformatted fs.log × FormatLeaves (g.may_leave (inner old)) (first_body (sizes_of index heap)) c)))
-          → Lasts g (Found base) (inner old) (inner f)
+          → Lasts g (Loose base) (inner old) (inner f)
       by_told None is may makes = absurd cc
       by_told (Some fs) is may makes = record { later = makes.later; each = λ c left. by_case fs c (own.1 fs may) (makes.each c left) }
 
-  base_none : (base : List Record) (s : V) → Owns g base s → IfSome (g.told s) (λ fs. IsUnformatted fs.log) → base ≡ []
+  base_none : (base : List Record) (s : V) → OwnsBut g base s → IfSome (g.told s) (λ fs. IsUnformatted fs.log) → base ≡ []
   base_none base s own without = by_told (g.told s) own.0 without (reads_now s)
     where
       by_told : (o : Option Disk) → is_some o ≡ true → IfSome o (λ fs. IsUnformatted fs.log) → IfSome o (λ fs. g.may_leave s fs) → base ≡ []
@@ -433,16 +511,25 @@ module _ {V : Type 0} (g : Ghosts V)
   quiet_within : (kept : List Transaction) (base : List Record) (old : Program V) (f : Fuse V) → AllIn kept base → IsThere g base old → Quiet old (inner f) → Within kept old f
   quiet_within kept base old f all a quiet = record { later = quiet.later; each = λ c left. there_left g kept base old all a c (quiet.each c left) }
 
-  record Onward (base : List Record) (new : Program V) : Type 0 where
+  record Onward (base : List Record) (sound : Type 0) (new : Program V) : Type 0 where
     log : List Record
     more : BeginsWith base log
     there : IsThere g log new
+    well : FoundWhere g sound log new
 
-  same_there : (base : List Record) (old new : Program V) → new ≡ old → IsThere g base old → Onward base new
-  same_there base old new same a = record { log = base; more = begins_all base; there = subst (IsThere g base) (sym same) a }
+  same_there : (base : List Record) (sound : Type 0) (old new : Program V) → new ≡ old → IsThere g base old → FoundWhere g sound base old → Onward base (IsSound sound old) new
+  same_there base sound old new same a well = record {
+    log = base;
+    more = begins_all base;
+    there = subst (IsThere g base) (sym same) a;
+    well = subst (FoundWhere g (IsSound sound old) base) (sym same) (keep_well g sound base old well);
+  }
 
-  up_there : (base : List Record) (core : Core (Fuse V)) (new : Program V) → new ≡ Up core → Behind g base core → Onward base new
-  up_there base core new up b = record { log = b.log; more = b.more; there = subst (IsThere g b.log) (sym up) b.live }
+  up_there : (base : List Record) (sound : Type 0) (core : Core (Fuse V)) (new : Program V) → new ≡ Up core → Behind g base core → Onward base sound new
+  up_there base sound core new up b = record { log = b.log; more = b.more; there = subst (IsThere g b.log) (sym up) b.live; well = subst (FoundWhere g sound b.log) (sym up) tt }
+
+  live_there : (base : List Record) (sound : Type 0) (core : Core (Fuse V)) (new : Program V) → new ≡ Up core → Live g base core → Onward base sound new
+  live_there base sound core new up a = up_there base sound core new up (record { log = base; more = begins_all base; live = a })
 
   module _ (limit : ℕ) (precheck : Bool) where
     -- ---- behind a command
@@ -451,107 +538,162 @@ module _ {V : Type 0} (g : Ghosts V)
       all : AllIn kept base
       there : IsThere g base p
 
-    known_on : (kept : List Transaction) (base : List Record) (new : Program V) → AllIn kept base → Onward base new → Known kept new
-    known_on kept base new all on = record { base = on.log; all = in_more kept base on.log on.more all; there = on.there }
+    record Stood (kept : List Transaction) (sound : Type 0) (p : Program V) : Type 0 where
+      known : Known kept p
+      well : FoundWhere g sound known.base p
+
+    stood_on : (kept : List Transaction) (base : List Record) (sound : Type 0) (new : Program V) → AllIn kept base → Onward base sound new → Stood kept sound new
+    stood_on kept base sound new all on = record { known = record { base = on.log; all = in_more kept base on.log on.more all; there = on.there }; well = on.well }
 
     append_nil : (kept : List Transaction) → kept ++ [] ≡ kept
     append_nil [] = refl
     append_nil (x ∷ kept) = ap (λ l. x ∷ l) (append_nil kept)
 
-    none_told : (kept : List Transaction) (p : Program V) → Known kept p → Known (kept ++ []) p
-    none_told kept p known = subst (λ l. Known l p) (sym (append_nil kept)) known
+    none_told : (kept : List Transaction) (sound : Type 0) (p : Program V) → Stood kept sound p → Stood (kept ++ []) sound p
+    none_told kept sound p stood = subst (λ l. Stood l sound p) (sym (append_nil kept)) stood
 
-    round_known : (kept : List Transaction) (base : List Record) (blocks : List Blocks) (c d : Core (Fuse V)) (ts : List Transcribed) (new : Program V) → new ≡ Up d
-        → IsNoShorter (told_in g) c.vault d.vault → Plays g precheck true blocks c ts d → AllIn kept base → Live g base c → Known (kept ++ oks_of (map lines_in ts)) new
-    round_known kept base blocks c d ts new up longer plays all a =
+    round_stood : (kept : List Transaction) (base : List Record) (sound : Type 0) (blocks : List Blocks) (c d : Core (Fuse V)) (ts : List Transcribed) (new : Program V) → new ≡ Up d
+        → IsNoShorter (told_in g) c.vault d.vault → Plays g precheck true blocks c ts d → AllIn kept base → Live g base c → Stood (kept ++ oks_of (map lines_in ts)) sound new
+    round_stood kept base sound blocks c d ts new up longer plays all a =
         let played = live_round g precheck base blocks c d ts longer plays a in
         let b = played.behind in
-        record { base = b.log; all = both_in kept (oks_of (map lines_in ts)) b.log (in_more kept base b.log b.more all) played.oks; there = subst (IsThere g b.log) (sym up) b.live }
-
-    alone_known : (name : Name) (act : Act) (kept : List Transaction) (old new : Program V) (text : List ℕ) → StepsAlone g precheck name act old text new → Known kept old → Known (kept ++ []) new
-    alone_known name act kept (Up core) new text step known =
-        let played = live_round g precheck known.base (alone act) core step.0 step.1.transcripts step.1.longer step.1.plays known.there in
-        none_told kept new (known_on kept known.base new known.all (up_there known.base step.0 new step.2 played.behind))
-    alone_known name act kept (Down store) new text step known = none_told kept new (known_on kept known.base new known.all (same_there known.base (Down store) new step.1 known.there))
-
-    cleanup_there : (stop : Option Cause) (base : List Record) (core : Core (Fuse V)) (new : Program V) (text : List ℕ) → core.system.state.stop ≡ stop → CleanupIn g stop core text new
-        → Live g base core → Onward base new
-    cleanup_there (Some cause) base core new text is step a = same_there base (Up core) new step.1 a
-    cleanup_there None base core new text is step a = up_there base step.0 new step.2 (live_cleaned base core step.0 step.1 is a)
-
-    show_there : (stop : Option Cause) (base : List Record) (core : Core (Fuse V)) (new : Program V) (text : List ℕ) → core.system.state.stop ≡ stop → ShowIn g stop core text new
-        → Live g base core → Onward base new
-    show_there (Some cause) base core new text is step a = same_there base (Up core) new step.1 a
-    show_there None base core new text is step a = up_there base step.0 new step.2 (live_cleaned base core step.0 step.1 is a)
-
-    verify_there : (stop : Option Cause) (base : List Record) (core : Core (Fuse V)) (new : Program V) (text : List ℕ) → core.system.state.stop ≡ stop
-        → VerifyIn g stop core text new → Live g base core → Onward base new
-    verify_there (Some cause) base core new text is step a = same_there base (Up core) new step.1 a
-    verify_there None base core new text is step a =
-        let cleaned = live_cleaned base core step.0 step.2 is a in
-        let compared = live_compared cleaned.log step.0 step.1 text step.3 cleaned.live in
-        up_there base step.1 new step.4 (record { log = compared.log; more = begins_then base cleaned.log compared.log cleaned.more compared.more; live = compared.live })
-
-    restart_there : (base : List Record) (old new : Program V) (text : List ℕ) → StepsRestart g limit old text new → Owns g base (inner (store_of old)) → Onward base new
-    restart_there base old new text (inl step) own = up_there base step.core new step.up (live_restart limit base old new text own step)
-    restart_there base old new text (inr step) own =
-        same_there base (Down step.store) new step.down
-        (let lasts = stops_found base (store_of old) step.store step.left own in (step.left.left.tells ∙ own.0, λ c may. lasts.each c (counts_now (inner step.store) (g.moment (inner (store_of old))) c lasts.later may)))
-
-    size_there : (index heap : ℕ) (base : List Record) (old new : Program V) (text : List ℕ) → StepsSize g limit index heap old text new → Owns g base (inner (store_of old)) → Onward base new
-    size_there index heap base old new text step own =
-        let first : List Record = first_record (sizes_of index heap) ∷ [] in
         record {
-          log = first;
-          more = subst (λ (l : List Record). BeginsWith l first) (sym (base_none base (inner (store_of old)) own step.unformatted)) (begins_none first);
-          there = subst (IsThere g first) (sym step.up) (live_point g first step.core (size_point g reads_now counts_now limit index heap old new text own.0 step));
+          known = record { base = b.log; all = both_in kept (oks_of (map lines_in ts)) b.log (in_more kept base b.log b.more all) played.oks; there = subst (IsThere g b.log) (sym up) b.live };
+          well = subst (FoundWhere g sound b.log) (sym up) tt;
         }
 
-    crash_there : (choice : ℕ) (base : List Record) (old new : Program V) (store : V) → IsDown new store → LeavesLess g (inner (store_of old)) store → Owns g base (inner (store_of old)) → Onward base new
-    crash_there choice base old new store down less own = record {
+    others : (kept : List Transaction) (sound : Type 0) (old new : Program V) (known : Known kept old) → Onward known.base sound new → Stood (kept ++ []) sound new
+    others kept sound old new known on = none_told kept sound new (stood_on kept known.base sound new known.all on)
+
+    alone_stood : (name : Name) (act : Act) (kept : List Transaction) (sound : Type 0) (old new : Program V) (text : List ℕ) → StepsAlone g precheck name act old text new → Stood kept sound old
+        → Stood (kept ++ []) (IsSound sound old) new
+    alone_stood name act kept sound (Up core) new text step stood =
+        let known = stood.known in
+        let played = live_round g precheck known.base (alone act) core step.0 step.1.transcripts step.1.longer step.1.plays known.there in
+        others kept (IsSound sound (Up core)) (Up core) new known (up_there known.base (IsSound sound (Up core)) step.0 new step.2 played.behind)
+    alone_stood name act kept sound (Down store) new text step stood =
+        others kept sound (Down store) new stood.known (same_there stood.known.base sound (Down store) new step.1 stood.known.there stood.well)
+
+    cleanup_there : (stop : Option Cause) (base : List Record) (sound : Type 0) (core : Core (Fuse V)) (new : Program V) (text : List ℕ) → core.system.state.stop ≡ stop → CleanupIn g stop core text new
+        → Live g base core → Onward base sound new
+    cleanup_there (Some cause) base sound core new text is step a = live_there base sound core new step.1 a
+    cleanup_there None base sound core new text is step a = up_there base sound step.0 new step.2 (live_cleaned base core step.0 step.1 is a)
+
+    show_there : (stop : Option Cause) (base : List Record) (sound : Type 0) (core : Core (Fuse V)) (new : Program V) (text : List ℕ) → core.system.state.stop ≡ stop → ShowIn g stop core text new
+        → Live g base core → Onward base sound new
+    show_there (Some cause) base sound core new text is step a = live_there base sound core new step.1 a
+    show_there None base sound core new text is step a = up_there base sound step.0 new step.2 (live_cleaned base core step.0 step.1 is a)
+
+    verify_there : (stop : Option Cause) (base : List Record) (sound : Type 0) (core : Core (Fuse V)) (new : Program V) (text : List ℕ) → core.system.state.stop ≡ stop
+        → VerifyIn g stop core text new → Live g base core → Onward base sound new
+    verify_there (Some cause) base sound core new text is step a = live_there base sound core new step.1 a
+    verify_there None base sound core new text is step a =
+        let cleaned = live_cleaned base core step.0 step.2 is a in
+        let compared = live_compared cleaned.log step.0 step.1 text step.3 cleaned.live in
+        up_there base sound step.1 new step.4 (record { log = compared.log; more = begins_then base cleaned.log compared.log cleaned.more compared.more; live = compared.live })
+
+    -- where the program is up then, no audit missed a stray write in what was found
+    restart_there : (base : List Record) (sound : Type 0) (old new : Program V) (text : List ℕ) → StepsRestart g limit old text new → SoundWhere sound old new → IsThere g base old → FoundWhere g sound base old
+        → Onward base (IsSound sound old) new
+    restart_there base sound old new text (inl step) up a well =
+        up_there base (IsSound sound old) step.core new step.up
+        (live_restart limit base old new text (owns_there g sound base old (subst (SoundWhere sound old) step.up up) a well) step)
+    restart_there base sound old new text (inr step) up a well = record {
       log = base;
       more = begins_all base;
-      there = subst (IsThere g base) (sym down.down) (subst (Owns g base) (sym down.store_is) (less.tells ∙ own.0, λ c may. own.1 c (less.crash c may)));
+      there = subst (IsThere g base) (sym step.down)
+          (let own = but_there g base old a in
+          let lasts = stops_loose base (store_of old) step.store step.left own in
+          (step.left.left.tells ∙ own.0, λ c may. lasts.each c (counts_now (inner step.store) (g.moment (inner (store_of old))) c lasts.later may)));
+      well = subst (FoundWhere g (IsSound sound old) base) (sym step.down)
+          (λ is.
+          let own = owns_there g sound base old is a well in
+          let lasts = stops_found base (store_of old) step.store step.left own in
+          (step.left.left.tells ∙ own.0, λ c may. lasts.each c (counts_now (inner step.store) (g.moment (inner (store_of old))) c lasts.later may)));
     }
 
-    others : (kept : List Transaction) (new : Program V) (old : Program V) (known : Known kept old) → Onward known.base new → Known (kept ++ []) new
-    others kept new old known on = none_told kept new (known_on kept known.base new known.all on)
+    size_there : (index heap : ℕ) (base : List Record) (sound : Type 0) (old new : Program V) (text : List ℕ) → StepsSize g limit index heap old text new → OwnsBut g base (inner (store_of old))
+        → Onward base sound new
+    size_there index heap base sound old new text step own =
+        let first : List Record = first_record (sizes_of index heap) ∷ [] in
+        up_there base sound step.core new step.up (record {
+          log = first;
+          more = subst (λ (l : List Record). BeginsWith l first) (sym (base_none base (inner (store_of old)) own step.unformatted)) (begins_none first);
+          live = live_point g first step.core (size_point g reads_now counts_now limit index heap old new text own.0 step);
+        })
 
-    step_known : (command : Command) (kept : List Transaction) (old new : Program V) (text : List ℕ) (step : Steps g limit precheck old command text new)
-        → NoneMissedBy command old → Known kept old → Known (kept ++ oks_by g limit precheck command old text new step) new
-    step_known (Round blocks) kept (Up core) new text step none known =
-        round_known kept known.base (map told_by blocks) core step.0 step.1.transcripts new step.2 step.1.longer step.1.plays known.all known.there
-    step_known (Round blocks) kept (Down store) new text step none known = others kept new (Down store) known (same_there known.base (Down store) new step.1 known.there)
-    step_known (Poke region word mask) kept old new text step none known = alone_known names.Poke (Pokes region word mask) kept old new text step known
-    step_known Audit kept old new text step none known = alone_known names.Audit Audits kept old new text step known
-    step_known Checkpoint kept old new text step none known = alone_known names.Checkpoint Checkpoints kept old new text step known
-    step_known (Size index heap) kept old new text step none known = others kept new old known (size_there index heap known.base old new text step (owns_there g known.base old none known.there))
-    step_known Open kept old new text step none known = others kept new old known (restart_there known.base old new text step (owns_there g known.base old none known.there))
-    step_known Restart kept old new text step none known = others kept new old known (restart_there known.base old new text step (owns_there g known.base old none known.there))
-    step_known (Crash choice) kept old new text step none known = others kept new old known (crash_there choice known.base old new step.store step.down step.left (owns_there g known.base old none known.there))
-    step_known Cleanup kept (Up core) new text step none known = others kept new (Up core) known (cleanup_there core.system.state.stop known.base core new text refl step known.there)
-    step_known Cleanup kept (Down store) new text step none known = others kept new (Down store) known (same_there known.base (Down store) new step.1 known.there)
-    step_known Show kept (Up core) new text step none known = others kept new (Up core) known (show_there core.system.state.stop known.base core new text refl step known.there)
-    step_known Show kept (Down store) new text step none known = others kept new (Down store) known (same_there known.base (Down store) new step.1 known.there)
-    step_known Verify kept (Up core) new text step none known = others kept new (Up core) known (verify_there core.system.state.stop known.base core new text refl step known.there)
-    step_known Verify kept (Down store) new text step none known = others kept new (Down store) known (same_there known.base (Down store) new step.1 known.there)
-    step_known Next kept old new text step none known = others kept new old known (same_there known.base old new step.1 known.there)
-    step_known (SetFuse passes) kept (Up core) new text step none known =
-        others kept new (Up core) known (same_there known.base (Up (record core { vault = with_store core.vault step.0.0 })) new step.0.2 (live_fused g known.base passes core step.0.0 step.0.1 known.there))
-    step_known (SetFuse passes) kept (Down store) new text step none known =
-        others kept new (Down store) known (same_there known.base (Down step.0.0) new step.0.2 (subst (Owns g known.base) (sym step.0.1.store) known.there))
+    crash_there : (base : List Record) (sound : Type 0) (old new : Program V) (store : V) → IsDown new store → LeavesLess g (inner (store_of old)) store → IsThere g base old → FoundWhere g sound base old
+        → Onward base (IsSound sound old) new
+    crash_there base sound old new store down less a well = record {
+      log = base;
+      more = begins_all base;
+      there = subst (IsThere g base) (sym down.down)
+          (let own = but_there g base old a in subst (OwnsBut g base) (sym down.store_is) (less.tells ∙ own.0, λ c may. own.1 c (less.crash c may)));
+      well = subst (FoundWhere g (IsSound sound old) base) (sym down.down)
+          (λ is. let own = owns_there g sound base old is a well in subst (Owns g base) (sym down.store_is) (less.tells ∙ own.0, λ c may. own.1 c (less.crash c may)));
+    }
+
+    fuse_there : (passes : ℕ) (base : List Record) (sound : Type 0) (store f : Fuse V) (new : Program V) → SetsFuse passes store f → new ≡ Down f → OwnsBut g base (inner store) → (sound → Owns g base (inner store))
+        → Onward base sound new
+    fuse_there passes base sound store f new set down own well = record {
+      log = base;
+      more = begins_all base;
+      there = subst (IsThere g base) (sym down) (subst (OwnsBut g base) (sym set.store) own);
+      well = subst (FoundWhere g sound base) (sym down) (λ is. subst (Owns g base) (sym set.store) (well is));
+    }
+
+    step_stood : (command : Command) (kept : List Transaction) (sound : Type 0) (old new : Program V) (text : List ℕ) (step : Steps g limit precheck old command text new)
+        → ComesUp command sound old new → Stood kept sound old → Stood (kept ++ oks_by g limit precheck command old text new step) (IsSound sound old) new
+    step_stood (Round blocks) kept sound (Up core) new text step up stood =
+        let known = stood.known in round_stood kept known.base (IsSound sound (Up core)) (map told_by blocks) core step.0 step.1.transcripts new step.2 step.1.longer step.1.plays known.all known.there
+    step_stood (Round blocks) kept sound (Down store) new text step up stood =
+        others kept sound (Down store) new stood.known (same_there stood.known.base sound (Down store) new step.1 stood.known.there stood.well)
+    step_stood (Poke region word mask) kept sound old new text step up stood = alone_stood names.Poke (Pokes region word mask) kept sound old new text step stood
+    step_stood Audit kept sound old new text step up stood = alone_stood names.Audit Audits kept sound old new text step stood
+    step_stood Checkpoint kept sound old new text step up stood = alone_stood names.Checkpoint Checkpoints kept sound old new text step stood
+    step_stood (Size index heap) kept sound old new text step up stood =
+        let known = stood.known in others kept (IsSound sound old) old new known (size_there index heap known.base (IsSound sound old) old new text step (but_there g known.base old known.there))
+    step_stood Open kept sound old new text step up stood =
+        let known = stood.known in others kept (IsSound sound old) old new known (restart_there known.base sound old new text step up known.there stood.well)
+    step_stood Restart kept sound old new text step up stood =
+        let known = stood.known in others kept (IsSound sound old) old new known (restart_there known.base sound old new text step up known.there stood.well)
+    step_stood (Crash choice) kept sound old new text step up stood =
+        let known = stood.known in others kept (IsSound sound old) old new known (crash_there known.base sound old new step.store step.down step.left known.there stood.well)
+    step_stood Cleanup kept sound (Up core) new text step up stood =
+        let known = stood.known in
+        others kept (IsSound sound (Up core)) (Up core) new known (cleanup_there core.system.state.stop known.base (IsSound sound (Up core)) core new text refl step known.there)
+    step_stood Cleanup kept sound (Down store) new text step up stood =
+        others kept sound (Down store) new stood.known (same_there stood.known.base sound (Down store) new step.1 stood.known.there stood.well)
+    step_stood Show kept sound (Up core) new text step up stood =
+        let known = stood.known in
+        others kept (IsSound sound (Up core)) (Up core) new known (show_there core.system.state.stop known.base (IsSound sound (Up core)) core new text refl step known.there)
+    step_stood Show kept sound (Down store) new text step up stood =
+        others kept sound (Down store) new stood.known (same_there stood.known.base sound (Down store) new step.1 stood.known.there stood.well)
+    step_stood Verify kept sound (Up core) new text step up stood =
+        let known = stood.known in
+        others kept (IsSound sound (Up core)) (Up core) new known (verify_there core.system.state.stop known.base (IsSound sound (Up core)) core new text refl step known.there)
+    step_stood Verify kept sound (Down store) new text step up stood =
+        others kept sound (Down store) new stood.known (same_there stood.known.base sound (Down store) new step.1 stood.known.there stood.well)
+    step_stood Next kept sound old new text step up stood =
+        others kept (IsSound sound old) old new stood.known (same_there stood.known.base sound old new step.1 stood.known.there stood.well)
+    step_stood (SetFuse passes) kept sound (Up core) new text step up stood =
+        let known = stood.known in
+        others kept (IsSound sound (Up core)) (Up core) new known
+        (live_there known.base (IsSound sound (Up core)) (record core { vault = with_store core.vault step.0.0 }) new step.0.2 (live_fused g known.base passes core step.0.0 step.0.1 known.there))
+    step_stood (SetFuse passes) kept sound (Down store) new text step up stood =
+        let known = stood.known in others kept sound (Down store) new known (fuse_there passes known.base sound store step.0.0 new step.0.1 step.0.2 known.there stood.well)
 
     -- ---- within it
     found_within : (kept : List Transaction) (base : List Record) (old : Program V) (f : Fuse V) → AllIn kept base
-        → Lasts g (Found base) (inner (store_of old)) (inner f) → Within kept old f
+        → Lasts g (Loose base) (inner (store_of old)) (inner f) → Within kept old f
     found_within kept base old f all found = record { later = found.later; each = λ c left. found_durable kept base c all (found.each c left) }
 
-    restart_within : (kept : List Transaction) (base : List Record) (old new : Program V) (text : List ℕ) → AllIn kept base → StepsRestart g limit old text new → Owns g base (inner (store_of old))
+    restart_within : (kept : List Transaction) (base : List Record) (old new : Program V) (text : List ℕ) → AllIn kept base → StepsRestart g limit old text new → OwnsBut g base (inner (store_of old))
         → Within kept old (store_of new)
     restart_within kept base old new text all (inl step) own =
-        subst (λ (p : Program V). Within kept old (store_of p)) (sym step.up) (found_within kept base old step.core.vault.store all (restarts_found limit base old new text step own))
+        subst (λ (p : Program V). Within kept old (store_of p)) (sym step.up) (found_within kept base old step.core.vault.store all (restarts_loose limit base old new text step own))
     restart_within kept base old new text all (inr step) own =
-        subst (λ (p : Program V). Within kept old (store_of p)) (sym step.down) (found_within kept base old step.store all (stops_found base (store_of old) step.store step.left own))
+        subst (λ (p : Program V). Within kept old (store_of p)) (sym step.down) (found_within kept base old step.store all (stops_loose base (store_of old) step.store step.left own))
 
     up_within : (kept : List Transaction) (base : List Record) (core d : Core (Fuse V)) (new : Program V) → new ≡ Up d → AllIn kept base → Live g base core → RightWithin g core d
         → Within kept (Up core) (store_of new)
@@ -581,31 +723,31 @@ module _ {V : Type 0} (g : Ghosts V)
         subst (λ (p : Program V). Quiet (Up core) (inner (store_of p))) (sym step.4) (read_quiet (Up core) step.1.vault.store reads)
 
     step_within : (command : Command) → IsFit command → (kept : List Transaction) (old new : Program V) (text : List ℕ) → Steps g limit precheck old command text new
-        → NoneMissedBy command old → Known kept old → Within kept old (store_of new)
-    step_within (Size index heap) fit kept old new text step none known =
+        → Known kept old → Within kept old (store_of new)
+    step_within (Size index heap) fit kept old new text step known =
         subst (λ (p : Program V). Within kept old (store_of p)) (sym step.up)
-        (found_within kept known.base old step.core.vault.store known.all (made_found index heap fit known.base (store_of old) step.core.vault.store step.left (owns_there g known.base old none known.there)))
-    step_within Open fit kept old new text step none known = restart_within kept known.base old new text known.all step (owns_there g known.base old none known.there)
-    step_within Restart fit kept old new text step none known = restart_within kept known.base old new text known.all step (owns_there g known.base old none known.there)
-    step_within (Round blocks) fit kept (Up core) new text step none known = up_within kept known.base core step.0 new step.2 known.all known.there step.1.moments
-    step_within (Round blocks) fit kept (Down store) new text step none known = quiet_within kept known.base (Down store) (store_of new) known.all known.there (state_quiet (Down store) new step.1)
-    step_within (Poke region word mask) fit kept old new text step none known = alone_within names.Poke (Pokes region word mask) kept old new text step known
-    step_within Audit fit kept old new text step none known = alone_within names.Audit Audits kept old new text step known
-    step_within Checkpoint fit kept old new text step none known = alone_within names.Checkpoint Checkpoints kept old new text step known
-    step_within Cleanup fit kept (Up core) new text step none known = quiet_within kept known.base (Up core) (store_of new) known.all known.there (cleanup_quiet core.system.state.stop core new text step)
-    step_within Cleanup fit kept (Down store) new text step none known = quiet_within kept known.base (Down store) (store_of new) known.all known.there (state_quiet (Down store) new step.1)
-    step_within (Crash choice) fit kept old new text step none known =
+        (found_within kept known.base old step.core.vault.store known.all (made_loose index heap fit known.base (store_of old) step.core.vault.store step.left (but_there g known.base old known.there)))
+    step_within Open fit kept old new text step known = restart_within kept known.base old new text known.all step (but_there g known.base old known.there)
+    step_within Restart fit kept old new text step known = restart_within kept known.base old new text known.all step (but_there g known.base old known.there)
+    step_within (Round blocks) fit kept (Up core) new text step known = up_within kept known.base core step.0 new step.2 known.all known.there step.1.moments
+    step_within (Round blocks) fit kept (Down store) new text step known = quiet_within kept known.base (Down store) (store_of new) known.all known.there (state_quiet (Down store) new step.1)
+    step_within (Poke region word mask) fit kept old new text step known = alone_within names.Poke (Pokes region word mask) kept old new text step known
+    step_within Audit fit kept old new text step known = alone_within names.Audit Audits kept old new text step known
+    step_within Checkpoint fit kept old new text step known = alone_within names.Checkpoint Checkpoints kept old new text step known
+    step_within Cleanup fit kept (Up core) new text step known = quiet_within kept known.base (Up core) (store_of new) known.all known.there (cleanup_quiet core.system.state.stop core new text step)
+    step_within Cleanup fit kept (Down store) new text step known = quiet_within kept known.base (Down store) (store_of new) known.all known.there (state_quiet (Down store) new step.1)
+    step_within (Crash choice) fit kept old new text step known =
         quiet_within kept known.base old (store_of new) known.all known.there
         (subst (Quiet old) (sym (ap (λ (p : Program V). inner (store_of p)) step.down.down ∙ step.down.store_is)) (less_quiet old step.store step.left))
-    step_within Show fit kept (Up core) new text step none known = quiet_within kept known.base (Up core) (store_of new) known.all known.there (show_quiet core.system.state.stop core new text step)
-    step_within Show fit kept (Down store) new text step none known = quiet_within kept known.base (Down store) (store_of new) known.all known.there (state_quiet (Down store) new step.1)
-    step_within Verify fit kept (Up core) new text step none known = quiet_within kept known.base (Up core) (store_of new) known.all known.there (verify_quiet core.system.state.stop core new text step)
-    step_within Verify fit kept (Down store) new text step none known = quiet_within kept known.base (Down store) (store_of new) known.all known.there (state_quiet (Down store) new step.1)
-    step_within Next fit kept old new text step none known = quiet_within kept known.base old (store_of new) known.all known.there (state_quiet old new step.1)
-    step_within (SetFuse passes) fit kept (Up core) new text step none known =
+    step_within Show fit kept (Up core) new text step known = quiet_within kept known.base (Up core) (store_of new) known.all known.there (show_quiet core.system.state.stop core new text step)
+    step_within Show fit kept (Down store) new text step known = quiet_within kept known.base (Down store) (store_of new) known.all known.there (state_quiet (Down store) new step.1)
+    step_within Verify fit kept (Up core) new text step known = quiet_within kept known.base (Up core) (store_of new) known.all known.there (verify_quiet core.system.state.stop core new text step)
+    step_within Verify fit kept (Down store) new text step known = quiet_within kept known.base (Down store) (store_of new) known.all known.there (state_quiet (Down store) new step.1)
+    step_within Next fit kept old new text step known = quiet_within kept known.base old (store_of new) known.all known.there (state_quiet old new step.1)
+    step_within (SetFuse passes) fit kept (Up core) new text step known =
         quiet_within kept known.base (Up core) (store_of new) known.all known.there
         (same_quiet (Up core) (inner (store_of new)) (ap (λ (p : Program V). inner (store_of p)) step.0.2 ∙ step.0.1.store))
-    step_within (SetFuse passes) fit kept (Down store) new text step none known =
+    step_within (SetFuse passes) fit kept (Down store) new text step known =
         quiet_within kept known.base (Down store) (store_of new) known.all known.there
         (same_quiet (Down store) (inner (store_of new)) (ap (λ (p : Program V). inner (store_of p)) step.0.2 ∙ step.0.1.store))
 
@@ -619,14 +761,14 @@ module _ {V : Type 0} (g : Ghosts V)
     less_within : (kept : List Transaction) (old : Program V) (f : Fuse V) → LeavesLess g (inner (store_of old)) (inner f) → Known kept old → Within kept old f
     less_within kept old f less known = quiet_within kept known.base old f known.all known.there (less_quiet old (inner f) less)
 
-    stops_within : (kept : List Transaction) (old : Program V) (f : Fuse V) → Rereads g (store_of old) f → NoneMissedIn old → Known kept old → Within kept old f
-    stops_within kept old f rereads none known =
-        found_within kept known.base old f known.all (stops_found known.base (store_of old) f rereads (owns_there g known.base old none known.there))
+    stops_within : (kept : List Transaction) (old : Program V) (f : Fuse V) → Rereads g (store_of old) f → Known kept old → Within kept old f
+    stops_within kept old f rereads known =
+        found_within kept known.base old f known.all (stops_loose known.base (store_of old) f rereads (but_there g known.base old known.there))
 
-    made_within : (index heap : ℕ) → AreInRange (sizes_of index heap) → (kept : List Transaction) (old : Program V) (f : Fuse V) → Makes g index heap (store_of old) f → NoneMissedIn old → Known kept old
+    made_within : (index heap : ℕ) → AreInRange (sizes_of index heap) → (kept : List Transaction) (old : Program V) (f : Fuse V) → Makes g index heap (store_of old) f → Known kept old
         → Within kept old f
-    made_within index heap range kept old f makes none known =
-        found_within kept known.base old f known.all (made_found index heap range known.base (store_of old) f makes (owns_there g known.base old none known.there))
+    made_within index heap range kept old f makes known =
+        found_within kept known.base old f known.all (made_loose index heap range known.base (store_of old) f makes (but_there g known.base old known.there))
 
     lost_within : (kept : List Transaction) (blocks : List Blocks) (old : Program V) (f : Fuse V) → Lost g precheck blocks old f → Known kept old → Within kept old f
     lost_within kept blocks (Up core) f (inl same) known = fuse_within kept (Up core) f same known
@@ -639,72 +781,109 @@ module _ {V : Type 0} (g : Ghosts V)
         subst (λ (x : Fuse V). Within kept (Up core) x) (sym fails.store) (round_within g kept known.base core fails.core known.all known.there fails.moments)
     lone_within kept act (Down store) f fails known = absurd fails
 
-    broken_within : (command : Command) → IsFit command → (kept : List Transaction) (old : Program V) (f : Fuse V) → Breaks g precheck command old f → NoneMissedBy command old → Known kept old
+    broken_within : (command : Command) → IsFit command → (kept : List Transaction) (old : Program V) (f : Fuse V) → Breaks g precheck command old f → Known kept old
         → Within kept old f
-    broken_within (Size index heap) fit kept old f breaks none known = made_within index heap fit kept old f breaks.0 none known
-    broken_within Open fit kept old f breaks none known = stops_within kept old f breaks.0 none known
-    broken_within Restart fit kept old f breaks none known = stops_within kept old f breaks.0 none known
-    broken_within (Round blocks) fit kept old f breaks none known = lost_within kept (map told_by blocks) old f breaks known
-    broken_within (Poke region word mask) fit kept old f breaks none known = lost_within kept (alone (Pokes region word mask)) old f breaks known
-    broken_within Audit fit kept old f breaks none known = lost_within kept (alone Audits) old f breaks known
-    broken_within Checkpoint fit kept old f breaks none known = lost_within kept (alone Checkpoints) old f breaks known
-    broken_within (Crash choice) fit kept old f breaks none known = less_within kept old f breaks.0 known
-    broken_within (SetFuse passes) fit kept old f breaks none known = quiet_within kept known.base old f known.all known.there (same_quiet old (inner f) breaks)
-    broken_within Next fit kept old f breaks none known = absurd breaks
-    broken_within Cleanup fit kept old f breaks none known = fuse_within kept old f breaks known
-    broken_within Show fit kept old f breaks none known = fuse_within kept old f breaks known
-    broken_within Verify fit kept old f breaks none known = read_within kept old f breaks.0 known
+    broken_within (Size index heap) fit kept old f breaks known = made_within index heap fit kept old f breaks.0 known
+    broken_within Open fit kept old f breaks known = stops_within kept old f breaks.0 known
+    broken_within Restart fit kept old f breaks known = stops_within kept old f breaks.0 known
+    broken_within (Round blocks) fit kept old f breaks known = lost_within kept (map told_by blocks) old f breaks known
+    broken_within (Poke region word mask) fit kept old f breaks known = lost_within kept (alone (Pokes region word mask)) old f breaks known
+    broken_within Audit fit kept old f breaks known = lost_within kept (alone Audits) old f breaks known
+    broken_within Checkpoint fit kept old f breaks known = lost_within kept (alone Checkpoints) old f breaks known
+    broken_within (Crash choice) fit kept old f breaks known = less_within kept old f breaks.0 known
+    broken_within (SetFuse passes) fit kept old f breaks known = quiet_within kept known.base old f known.all known.there (same_quiet old (inner f) breaks)
+    broken_within Next fit kept old f breaks known = absurd breaks
+    broken_within Cleanup fit kept old f breaks known = fuse_within kept old f breaks known
+    broken_within Show fit kept old f breaks known = fuse_within kept old f breaks known
+    broken_within Verify fit kept old f breaks known = read_within kept old f breaks.0 known
 
-    failed_within : (command : Command) → IsFit command → (kept : List Transaction) (old : Program V) (f : Fuse V) → StoreFailsIn g precheck command old f → NoneMissedBy command old → Known kept old
+    failed_within : (command : Command) → IsFit command → (kept : List Transaction) (old : Program V) (f : Fuse V) → StoreFailsIn g precheck command old f → Known kept old
         → Within kept old f
-    failed_within (Size index heap) fit kept old f fails none known = made_within index heap fit kept old f fails.1 none known
-    failed_within Open fit kept old f fails none known = stops_within kept old f fails.1 none known
-    failed_within Restart fit kept old f fails none known = stops_within kept old f fails.1 none known
-    failed_within (Poke region word mask) fit kept old f fails none known = lone_within kept (Pokes region word mask) old f fails known
-    failed_within Audit fit kept old f fails none known = lone_within kept Audits old f fails known
-    failed_within Checkpoint fit kept old f fails none known = lone_within kept Checkpoints old f fails known
-    failed_within (Crash choice) fit kept old f fails none known = less_within kept old f fails.1 known
-    failed_within Verify fit kept old f fails none known = read_within kept old f fails.1 known
-    failed_within (Round blocks) fit kept old f fails none known = absurd fails
-    failed_within Cleanup fit kept old f fails none known = absurd fails
-    failed_within Show fit kept old f fails none known = absurd fails
-    failed_within Next fit kept old f fails none known = absurd fails
-    failed_within (SetFuse passes) fit kept old f fails none known = absurd fails
+    failed_within (Size index heap) fit kept old f fails known = made_within index heap fit kept old f fails.1 known
+    failed_within Open fit kept old f fails known = stops_within kept old f fails.1 known
+    failed_within Restart fit kept old f fails known = stops_within kept old f fails.1 known
+    failed_within (Poke region word mask) fit kept old f fails known = lone_within kept (Pokes region word mask) old f fails known
+    failed_within Audit fit kept old f fails known = lone_within kept Audits old f fails known
+    failed_within Checkpoint fit kept old f fails known = lone_within kept Checkpoints old f fails known
+    failed_within (Crash choice) fit kept old f fails known = less_within kept old f fails.1 known
+    failed_within Verify fit kept old f fails known = read_within kept old f fails.1 known
+    failed_within (Round blocks) fit kept old f fails known = absurd fails
+    failed_within Cleanup fit kept old f fails known = absurd fails
+    failed_within Show fit kept old f fails known = absurd fails
+    failed_within Next fit kept old f fails known = absurd fails
+    failed_within (SetFuse passes) fit kept old f fails known = absurd fails
 
-    fails_within : (halt : Halt) (command : Command) → IsFit command → (kept : List Transaction) (old : Program V) (f : Fuse V) → Fails g precheck halt command old f → NoneMissedBy command old → Known kept old
+    fails_within : (halt : Halt) (command : Command) → IsFit command → (kept : List Transaction) (old : Program V) (f : Fuse V) → Fails g precheck halt command old f → Known kept old
         → Within kept old f
-    fails_within halts.StoreFault command fit kept old f fails none known = failed_within command fit kept old f fails none known
-    fails_within halts.OutOfMemory command fit kept old f fails none known = broken_within command fit kept old f fails none known
-    fails_within (halts.BadStore file at) command fit kept old f fails none known = read_within kept old f fails.2 known
-    fails_within halts.Unformatted command fit kept old f fails none known = read_within kept old f fails.2 known
-    fails_within halts.Formatted command fit kept old f fails none known = read_within kept old f fails.2 known
-    fails_within halts.StoreUnsteady command fit kept old f fails none known = read_within kept old f fails.2 known
-    fails_within halts.RecordTooLong command fit kept old f fails none known = read_within kept old f fails.2 known
-    fails_within halts.BadWords command fit kept old f fails none known = absurd fails
-    fails_within (halts.BadScript line kind) command fit kept old f fails none known = absurd fails
-    fails_within halts.TooLong command fit kept old f fails none known = absurd fails
-    fails_within halts.ReadFault command fit kept old f fails none known = absurd fails
-    fails_within halts.WriteFault command fit kept old f fails none known = absurd fails
-    fails_within (halts.LogFull end most) command fit kept old f fails none known = absurd fails
-    fails_within halts.TooSmall command fit kept old f fails none known = absurd fails
-    fails_within halts.NotLoaded command fit kept old f fails none known = absurd fails
+    fails_within halts.StoreFault command fit kept old f fails known = failed_within command fit kept old f fails known
+    fails_within halts.OutOfMemory command fit kept old f fails known = broken_within command fit kept old f fails known
+    fails_within (halts.BadStore file at) command fit kept old f fails known = read_within kept old f fails.2 known
+    fails_within halts.Unformatted command fit kept old f fails known = read_within kept old f fails.2 known
+    fails_within halts.Formatted command fit kept old f fails known = read_within kept old f fails.2 known
+    fails_within halts.StoreUnsteady command fit kept old f fails known = read_within kept old f fails.2 known
+    fails_within halts.RecordTooLong command fit kept old f fails known = read_within kept old f fails.2 known
+    fails_within halts.BadWords command fit kept old f fails known = absurd fails
+    fails_within (halts.BadScript line kind) command fit kept old f fails known = absurd fails
+    fails_within halts.TooLong command fit kept old f fails known = absurd fails
+    fails_within halts.ReadFault command fit kept old f fails known = absurd fails
+    fails_within halts.WriteFault command fit kept old f fails known = absurd fails
+    fails_within (halts.LogFull end most) command fit kept old f fails known = absurd fails
+    fails_within halts.TooSmall command fit kept old f fails known = absurd fails
+    fails_within halts.NotLoaded command fit kept old f fails known = absurd fails
 
     -- ---- along a run
-    along : (Behind : List Transaction → Type 0) (commands : List Command) → AreFit commands → (kept : List Transaction) (old : Program V) (text : List ℕ) (new : Program V)
-        → (runs : RunsAll g limit precheck old commands text new) → Known kept old → ((now : List Transaction) → Known now new → Behind now)
-        → DurableAlong g limit precheck Behind commands kept old text new runs
-    along Behind [] fit kept old text new runs known then =
-        (there_left g kept known.base old known.all known.there, then kept (subst (Known kept) (sym runs.1) known))
-    along Behind (command ∷ later) fit kept old text new runs known then = (
-      there_left g kept known.base old known.all known.there,
-      λ none. (
-        (step_within command fit.0 kept old runs.1 runs.0 runs.3 none known).each,
-        along Behind later fit.1 (kept ++ oks_by g limit precheck command old runs.0 runs.1 runs.3) runs.1 runs.2 new runs.4 (step_known command kept old runs.1 runs.0 runs.3 none known) then,
-      ),
+    along : (Behind : List Transaction → Type 0) (commands : List Command) → AreFit commands → (kept : List Transaction) (sound : Type 0) (old : Program V) (text : List ℕ) (new : Program V)
+        → (runs : RunsAll g limit precheck old commands text new) → Stood kept sound old → ((now : List Transaction) (is : Type 0) → Stood now is new → Behind now)
+        → DurableAlong g limit precheck Behind commands kept sound old text new runs
+    along Behind [] fit kept sound old text new runs stood then =
+        (there_left g kept stood.known.base old stood.known.all stood.known.there, then kept sound (subst (Stood kept sound) (sym runs.1) stood))
+    along Behind (command ∷ later) fit kept sound old text new runs stood then = (
+      there_left g kept stood.known.base old stood.known.all stood.known.there,
+      (step_within command fit.0 kept old runs.1 runs.0 runs.3 stood.known).each,
+      λ up.
+          along Behind later fit.1 (kept ++ oks_by g limit precheck command old runs.0 runs.1 runs.3) (IsSound sound old) runs.1 runs.2 new runs.4
+          (step_stood command kept sound old runs.1 runs.0 runs.3 up stood) then,
     )
 
     known_left : (kept : List Transaction) (p : Program V) (s : V) → inner (store_of p) ≡ s → Known kept p → DurableLeft g kept s
     known_left kept p s same known = subst (DurableLeft g kept) same (there_left g kept known.base p known.all known.there)
+
+    -- behind a command, also where its core stands at no point of a run
+    restart_left : (command : Command) → IsFit command → (kept : List Transaction) (old new : Program V) (text : List ℕ) → Steps g limit precheck old command text new → Known kept old
+        → DurableLeft g (kept ++ []) (inner (store_of new))
+    restart_left command fit kept old new text step known =
+        subst (λ (l : List Transaction). DurableLeft g l (inner (store_of new))) (sym (append_nil kept))
+        (let lasts = step_within command fit kept old new text step known in λ d may. lasts.each d (counts_now (inner (store_of new)) (g.moment (inner (store_of old))) d lasts.later may))
+
+    stood_left : (kept : List Transaction) (sound : Type 0) (p : Program V) → Stood kept sound p → DurableLeft g kept (inner (store_of p))
+    stood_left kept sound p stood = there_left g kept stood.known.base p stood.known.all stood.known.there
+
+    step_left : (command : Command) → IsFit command → (kept : List Transaction) (sound : Type 0) (old new : Program V) (text : List ℕ) (step : Steps g limit precheck old command text new) → Stood kept sound old
+        → DurableLeft g (kept ++ oks_by g limit precheck command old text new step) (inner (store_of new))
+    step_left Open fit kept sound old new text step stood = restart_left Open fit kept old new text step stood.known
+    step_left Restart fit kept sound old new text step stood = restart_left Restart fit kept old new text step stood.known
+    step_left (Round blocks) fit kept sound old new text step stood =
+        stood_left (kept ++ oks_by g limit precheck (Round blocks) old text new step) (IsSound sound old) new (step_stood (Round blocks) kept sound old new text step tt stood)
+    step_left (Poke region word mask) fit kept sound old new text step stood =
+        stood_left (kept ++ oks_by g limit precheck (Poke region word mask) old text new step) (IsSound sound old) new (step_stood (Poke region word mask) kept sound old new text step tt stood)
+    step_left Audit fit kept sound old new text step stood =
+        stood_left (kept ++ oks_by g limit precheck Audit old text new step) (IsSound sound old) new (step_stood Audit kept sound old new text step tt stood)
+    step_left Checkpoint fit kept sound old new text step stood =
+        stood_left (kept ++ oks_by g limit precheck Checkpoint old text new step) (IsSound sound old) new (step_stood Checkpoint kept sound old new text step tt stood)
+    step_left (Size index heap) fit kept sound old new text step stood =
+        stood_left (kept ++ oks_by g limit precheck (Size index heap) old text new step) (IsSound sound old) new (step_stood (Size index heap) kept sound old new text step tt stood)
+    step_left (Crash choice) fit kept sound old new text step stood =
+        stood_left (kept ++ oks_by g limit precheck (Crash choice) old text new step) (IsSound sound old) new (step_stood (Crash choice) kept sound old new text step tt stood)
+    step_left Cleanup fit kept sound old new text step stood =
+        stood_left (kept ++ oks_by g limit precheck Cleanup old text new step) (IsSound sound old) new (step_stood Cleanup kept sound old new text step tt stood)
+    step_left Show fit kept sound old new text step stood =
+        stood_left (kept ++ oks_by g limit precheck Show old text new step) (IsSound sound old) new (step_stood Show kept sound old new text step tt stood)
+    step_left Verify fit kept sound old new text step stood =
+        stood_left (kept ++ oks_by g limit precheck Verify old text new step) (IsSound sound old) new (step_stood Verify kept sound old new text step tt stood)
+    step_left Next fit kept sound old new text step stood =
+        stood_left (kept ++ oks_by g limit precheck Next old text new step) (IsSound sound old) new (step_stood Next kept sound old new text step tt stood)
+    step_left (SetFuse passes) fit kept sound old new text step stood =
+        stood_left (kept ++ oks_by g limit precheck (SetFuse passes) old text new step) (IsSound sound old) new (step_stood (SetFuse passes) kept sound old new text step tt stood)
 
     module _ (c : Course V) (mid : Option (List ℕ)) (count : ℕ) (base : List Record) (own : IsOwn g base c.store) where
       abbrev kept : List Transaction
@@ -716,20 +895,26 @@ module _ {V : Type 0} (g : Ghosts V)
       owns : Owns g base c.store
       owns = (own.0, λ d may. holds_found base d (own.1 d may))
 
-      first : (p : Program V) → IsDown p c.store → Known kept p
-      first p down = record { base = base; all = all; there = subst (IsThere g base) (sym down.down) (subst (Owns g base) (sym down.store_is) owns) }
+      owns_but : OwnsBut g base c.store
+      owns_but = (own.0, λ d may. found_loose base d (holds_found base d (own.1 d may)))
+
+      first : (p : Program V) → IsDown p c.store → Stood kept (Unit {0}) p
+      first p down = record {
+        known = record { base = base; all = all; there = subst (IsThere g base) (sym down.down) (subst (OwnsBut g base) (sym down.store_is) owns_but) };
+        well = subst (FoundWhere g (Unit {0}) base) (sym down.down) (λ is. subst (Owns g base) (sym down.store_is) owns);
+      }
 
       same_store : c.store' ≡ c.store → DurableLeft g kept c.store'
-      same_store same = subst (DurableLeft g kept) (sym same) (owns_left g kept base c.store all owns)
+      same_store same = subst (DurableLeft g kept) (sym same) (owns_left g kept base c.store all owns_but)
 
       stopped : (halt : Halt) (stop : HasStopped g limit precheck halt c mid) → StoppedIsDurable g limit precheck c mid count kept halt stop
       stopped halt stop =
           let stops = stop.2 in
           let fit = all_fit stop.1.bytes stop.0 stop.1.spelled in
-          along (λ now. NoneMissedBy stops.command stops.state → DurableWithin g now stops.state stops.last × DurableLeft g now c.store') (take stops.count stop.0) (fit_front stops.count stop.0 fit) kept
+          along (λ now. DurableWithin g now stops.state stops.last × DurableLeft g now c.store') (take stops.count stop.0) (fit_front stops.count stop.0 fit) kept (Unit {0})
           stops.run.first stops.text stops.state stops.run.runs (first stops.run.first stops.run.down)
-          (λ now known none.
-          let lasts = fails_within halt stops.command (next_fit stop.0 stops.count stops.command fit stops.next.next) now stops.state stops.last stops.fails none known in
+          (λ now sound stood.
+          let lasts = fails_within halt stops.command (next_fit stop.0 stops.count stops.command fit stops.next.next) now stops.state stops.last stops.fails stood.known in
           (lasts.each, subst (DurableLeft g now) stops.store (λ d may. lasts.each d (counts_now (inner stops.last) (g.moment (inner (store_of stops.state))) d lasts.later may))))
 
       wanting : (o : Untouched c mid ⊎ HasStopped g limit precheck halts.OutOfMemory c mid) → WantingIsDurable g limit precheck c mid count kept o
@@ -739,18 +924,20 @@ module _ {V : Type 0} (g : Ghosts V)
       script_is_durable : (status : Status) (ended : EndedScript g limit precheck c mid count status) → ScriptIsDurable g limit precheck c mid count kept status ended
       script_is_durable Done ended =
           let ran = ended.2 in
-          along (λ now. DurableLeft g now c.store') (take (length ended.0) ended.0) (fit_front (length ended.0) ended.0 (all_fit ended.1.bytes ended.0 ended.1.spelled)) kept ran.run.first ran.text ran.state
-          ran.run.runs (first ran.run.first ran.run.down) (λ now known. known_left now ran.state c.store' ran.store known)
+          along (λ now. DurableLeft g now c.store') (take (length ended.0) ended.0) (fit_front (length ended.0) ended.0 (all_fit ended.1.bytes ended.0 ended.1.spelled)) kept (Unit {0}) ran.run.first ran.text ran.state
+          ran.run.runs (first ran.run.first ran.run.down) (λ now sound stood. known_left now ran.state c.store' ran.store stood.known)
       script_is_durable WriteFault ended =
           let cut = ended.1.2 in
           let fit = all_fit ended.1.1.bytes ended.1.0 ended.1.1.spelled in
           along
-          (λ now. NoneMissedBy cut.command cut.earlier → DurableWithin g now cut.earlier (store_of cut.state)
+          (λ now. DurableWithin g now cut.earlier (store_of cut.state)
           × DurableLeft g (now ++ oks_by g limit precheck cut.command cut.earlier cut.more cut.state cut.steps) c.store')
-          (take cut.count ended.1.0) (fit_front cut.count ended.1.0 fit) kept cut.ran.first cut.text cut.earlier cut.ran.runs (first cut.ran.first cut.ran.down)
-          (λ now known none. (
-            (step_within cut.command (next_fit ended.1.0 cut.count cut.command fit cut.next.next) now cut.earlier cut.state cut.more cut.steps none known).each,
-            known_left (now ++ oks_by g limit precheck cut.command cut.earlier cut.more cut.state cut.steps) cut.state c.store' cut.store (step_known cut.command now cut.earlier cut.state cut.more cut.steps none known),
+          (take cut.count ended.1.0) (fit_front cut.count ended.1.0 fit) kept (Unit {0}) cut.ran.first cut.text cut.earlier cut.ran.runs (first cut.ran.first cut.ran.down)
+          (λ now sound stood.
+          let next = next_fit ended.1.0 cut.count cut.command fit cut.next.next in (
+            (step_within cut.command next now cut.earlier cut.state cut.more cut.steps stood.known).each,
+            subst (DurableLeft g (now ++ oks_by g limit precheck cut.command cut.earlier cut.more cut.state cut.steps)) cut.store
+                (step_left cut.command next now sound cut.earlier cut.state cut.more cut.steps stood),
           ))
       script_is_durable StoreFault ended = stopped halts.StoreFault ended
       script_is_durable (BadStore file at) ended = stopped (halts.BadStore file at) ended

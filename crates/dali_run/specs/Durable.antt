@@ -4,9 +4,11 @@
 --     DurableLeft kept s       so it is of each of the files that a crash may leave of the store s
 --     DurableWithin kept p f   and at each moment from the state p on, until its store is f
 --     NoneMissedIn p           while the program is up, no audit of this memory passed a region whose stray writes cancelled
---     NoneMissedBy command p   so it is where the command gives the memory up
---     DurableAlong Behind ..   so it is at each state of a run and within each command, as long as none was missed where memory was given up; and behind the last
---                              one what Behind says
+--     IsSound sound p          no audit missed one in the memory that is there; or sound says so of the memory that was given up last
+--     ComesUp command sound old new    where the command finds a database and the program is up then, this is asked of what it found: else its core has words that
+--                              its log doesn't say, and stands at no point of a run
+--     DurableAlong Behind ..   so it is at each state of a run and within each command, also in a `crash` and a restart of what an audit missed; and behind the
+--                              last one what Behind says. Only what is run on behind such a restart is left out
 --     ScriptIsDurable ..       of a script with each status: along it, within the command that ended it, and of the store that comes back
 --     AcknowledgedStay         of each run of a script
 use Rattle.std.specs.Prelude.{◌≡◌, ◌⊎◌, ℕ, Bool, false, List, [], ◌∷◌, ◌++◌, Option, Some, length, slice_get, take}
@@ -20,7 +22,7 @@ use Rattle.dali_fuse.specs.declared.fuse.Fuse.{Fuse}
 use Rattle.dali_record.specs.declared.records.Record.{Record}
 use Rattle.dali_region.specs.State.{RegionState}
 use Rattle.dali_script.specs.declared.commands.Command.{Command}
-use Rattle.dali_script.specs.declared.commands.Command.TheVariants.{Size, Open, Crash, Restart}
+use Rattle.dali_script.specs.declared.commands.Command.TheVariants.{Open, Restart}
 use Rattle.dali_served.specs.Oks.{Transaction}
 use Rattle.dali_store.specs.Store.{Files as Disk}
 use Rattle.dali_store.specs.declared.store.Store.{Ghosts}
@@ -44,12 +46,18 @@ module _ {V : Type 0} where
   NoneMissedIn (Up core) = (r : ℕ) (x : RegionState) → slice_get core.regions.items r ≡ Some x → x.missed ≡ false
   NoneMissedIn (Down store) = Unit {0}
 
-  abbrev pub NoneMissedBy : Command → Program V → Type 0
-  NoneMissedBy (Size index heap) p = NoneMissedIn p
-  NoneMissedBy Open p = NoneMissedIn p
-  NoneMissedBy Restart p = NoneMissedIn p
-  NoneMissedBy (Crash choice) p = NoneMissedIn p
-  NoneMissedBy _ p = Unit {0}
+  abbrev pub IsSound : Type 0 → Program V → Type 0
+  IsSound sound (Up core) = NoneMissedIn (Up core)
+  IsSound sound (Down store) = sound
+
+  abbrev pub SoundWhere : Type 0 → Program V → Program V → Type 0
+  SoundWhere sound old (Up core) = IsSound sound old
+  SoundWhere sound old (Down store) = Unit {0}
+
+  abbrev pub ComesUp : Command → Type 0 → Program V → Program V → Type 0
+  ComesUp Open sound old new = SoundWhere sound old new
+  ComesUp Restart sound old new = SoundWhere sound old new
+  ComesUp _ sound old new = Unit {0}
 
 module _ {V : Type 0} (g : Ghosts V) where
   abbrev pub DurableLeft : List Transaction → V → Type 0
@@ -59,20 +67,20 @@ module _ {V : Type 0} (g : Ghosts V) where
   DurableWithin kept p f = (c : Disk) → g.left_since (inner f) (g.moment (inner (store_of p))) c → IsDurable kept c
 
 module _ {V : Type 0} (g : Ghosts V) (limit : ℕ) (precheck : Bool) where
-  abbrev pub DurableAlong : (Behind : List Transaction → Type 0) (commands : List Command) (kept : List Transaction) (old : Program V) (text : List ℕ) (new : Program V)
+  abbrev pub DurableAlong : (Behind : List Transaction → Type 0) (commands : List Command) (kept : List Transaction) (sound : Type 0) (old : Program V) (text : List ℕ) (new : Program V)
       → RunsAll g limit precheck old commands text new → Type 0
-  DurableAlong Behind [] kept old text new runs = DurableLeft g kept (inner (store_of old)) × Behind kept
-  DurableAlong Behind (command ∷ later) kept old text new runs =
-      DurableLeft g kept (inner (store_of old))
-      × (NoneMissedBy command old → DurableWithin g kept old (store_of runs.1)
-      × DurableAlong Behind later (kept ++ oks_by g limit precheck command old runs.0 runs.1 runs.3) runs.1 runs.2 new runs.4)
+  DurableAlong Behind [] kept sound old text new runs = DurableLeft g kept (inner (store_of old)) × Behind kept
+  -- the last moment within a command is the state behind it
+  DurableAlong Behind (command ∷ later) kept sound old text new runs =
+      DurableLeft g kept (inner (store_of old)) × DurableWithin g kept old (store_of runs.1)
+      × (ComesUp command sound old runs.1 → DurableAlong Behind later (kept ++ oks_by g limit precheck command old runs.0 runs.1 runs.3) (IsSound sound old) runs.1 runs.2 new runs.4)
 
   module _ (c : Course V) (mid : Option (List ℕ)) (count : ℕ) (kept : List Transaction) where
     abbrev pub StoppedIsDurable : (halt : Halt) → HasStopped g limit precheck halt c mid → Type 0
     StoppedIsDurable halt stopped =
         let stops = stopped.2 in
-        DurableAlong (λ now. NoneMissedBy stops.command stops.state → DurableWithin g now stops.state stops.last × DurableLeft g now c.store')
-        (take stops.count stopped.0) kept stops.run.first stops.text stops.state stops.run.runs
+        DurableAlong (λ now. DurableWithin g now stops.state stops.last × DurableLeft g now c.store')
+        (take stops.count stopped.0) kept (Unit {0}) stops.run.first stops.text stops.state stops.run.runs
 
     abbrev pub WantingIsDurable : Untouched c mid ⊎ HasStopped g limit precheck halts.OutOfMemory c mid → Type 0
     WantingIsDurable (inl untouched) = DurableLeft g kept c.store'
@@ -80,14 +88,14 @@ module _ {V : Type 0} (g : Ghosts V) (limit : ℕ) (precheck : Bool) where
 
     abbrev pub ScriptIsDurable : (status : Status) → EndedScript g limit precheck c mid count status → Type 0
     ScriptIsDurable Done ended =
-        let ran = ended.2 in DurableAlong (λ now. DurableLeft g now c.store') (take (length ended.0) ended.0) kept ran.run.first ran.text ran.state ran.run.runs
+        let ran = ended.2 in DurableAlong (λ now. DurableLeft g now c.store') (take (length ended.0) ended.0) kept (Unit {0}) ran.run.first ran.text ran.state ran.run.runs
     -- all lines of the last command are meant, also those that weren't written
     ScriptIsDurable WriteFault ended =
         let cut = ended.1.2 in
         DurableAlong
-        (λ now. NoneMissedBy cut.command cut.earlier → DurableWithin g now cut.earlier (store_of cut.state)
+        (λ now. DurableWithin g now cut.earlier (store_of cut.state)
         × DurableLeft g (now ++ oks_by g limit precheck cut.command cut.earlier cut.more cut.state cut.steps) c.store')
-        (take cut.count ended.1.0) kept cut.ran.first cut.text cut.earlier cut.ran.runs
+        (take cut.count ended.1.0) kept (Unit {0}) cut.ran.first cut.text cut.earlier cut.ran.runs
     ScriptIsDurable StoreFault ended = StoppedIsDurable halts.StoreFault ended
     ScriptIsDurable (BadStore file at) ended = StoppedIsDurable (halts.BadStore file at) ended
     ScriptIsDurable Unformatted ended = StoppedIsDurable halts.Unformatted ended

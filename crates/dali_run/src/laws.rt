@@ -42,10 +42,11 @@ pub fn acknowledged_commits_survive<V: Store>()
 /// and at each moment within a command, also within a round and within one that fails, the log of whatever a crash then leaves has
 /// the commit of each transaction for which a line `commit ok` was told before, and of its calls just those that its client was told
 /// of, with these answers. It survives there, or a chain of logged reads or undone changes links it to a region that failed its
-/// audit, and not both. So it is of the store that comes back, with every status. Of the stray writes to the memory that is there
-/// nothing is asked. Of memory that a `crash`, a `restart`, an `open` or a `size` gave up before, or gives up, it is asked that no
-/// audit of it had passed a region whose stray writes cancelled: else the image that a checkpoint of it made current may not be one
-/// that a restart finds.
+/// audit, and not both. So it is of the store that comes back, with every status. Of stray writes nothing is asked, also where a
+/// `crash`, a `restart`, an `open` or a `size` gives the memory up, or fails: none takes a record from the log. Only of what is run
+/// behind an `open` or a `restart` that found a database it is asked that no audit of the memory given up before had passed a region
+/// whose stray writes cancelled. Else an image with these was made current: the restart hands out words that the log doesn't say,
+/// and a core with such words stands at no point of a run.
 pub fn acknowledged_commits_stay<V: Store>()
     ensures { AcknowledgedStay V.Store }
 {}

@@ -89,7 +89,8 @@ pub trait Store {
     /// How many bytes a drop of the log below a place would drop now: none of a store that keeps its log in one piece.
     ghost droppable: { Self → ℕ → ℕ };
 
-    /// The place from which on no byte of the log is dropped: the end of the last part that is, or 0.
+    /// The place from which on no byte of the log is dropped: the end of the last part that is, or 0. A call changes no
+    /// byte there but by what it writes, and `cut` alone says nothing of it.
     ghost dropped_to: { Self → ℕ };
 
     /// The length of a file in bytes. A length of 2^62 or more counts as a fault. Takes no memory.
@@ -156,7 +157,7 @@ pub trait Store {
 
     /// Drops the segments of the log that end at a place or before it, all but the first one, and answers how many bytes
     /// they had: none where the log is kept in one piece. The place is to be below the log's length. What is dropped
-    /// reads as 00. After Ok nothing is left to drop there, and where something was dropped, a crash leaves of the log
+    /// reads as 00, and all from `first_kept` on reads as before, after a fault too. After Ok nothing is left to drop there, and where something was dropped, a crash leaves of the log
     /// what reads give. A crash inside the call leaves each byte below the place as it was or dropped, and so may a fault.
     /// Takes no memory.
     fn drop_log(&mut self, below: u64) -> Result<u64, StoreFault>
@@ -170,6 +171,7 @@ pub trait Store {
         ensures idle { droppable self.old below ≡ 0 → IsIdle (told self.old) (told self.new) (may_leave self.old) (may_leave self.new) }
         ensures durable { OnOk result (0 < droppable self.old below → IsSynced FileName.Log (told self.new) (may_leave self.new)) }
         ensures dropped { DroppedTold below (told self.old) (told self.new) }
+        ensures kept { DroppedTold (dropped_to self.new) (told self.old) (told self.new) }
         ensures crash { Follows (DroppedIn below) (may_leave self.old) (may_leave self.new) }
         ensures time { Elapses (moment self.old) (moment self.new) (left_since self.old) (left_since self.new) (After (DroppedIn below) (may_leave self.old)) }
         ensures cause { HasCause (faults self.old) (faults self.new) result }

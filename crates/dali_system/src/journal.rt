@@ -9,7 +9,7 @@ ghost use Rattle.std.specs.FinMap as map;
 ghost use Rattle.dali_system.specs.Promised.{promised_to, Covers};
 ghost use Rattle.dali_system.specs.Journaled.{waiting, noted, noted_by, noted_from, noted_last, HasMemory, IsSmall};
 
-use crate::past::RecordsSince;
+use crate::past::Past;
 use crate::promises::{Promises, Uses};
 use dali_bytes::OutOfMemory;
 use dali_log::{Entry, Frame, MOST_BYTES, entry_length};
@@ -28,7 +28,7 @@ const MOST_LOGGED: u64 = 1 << 62;
 /// then.
 #[derive(Drop)]
 pub struct Journal {
-    since: RecordsSince,
+    since: Past<Record>,
     frame: Frame,
     count: u64,
     taken: u64,
@@ -45,9 +45,9 @@ impl Model for Journal {
 
     ghost coded = { journaled_code };
 
-    ghost view = { λ j. record { since = j.since.records; taken = j.taken; promised = j.promises } };
+    ghost view = { λ j. record { since = j.since.items; taken = j.taken; promised = j.promises } };
 
-    ghost invariant = { λ j. IsKept j.since.records j.frame j.count j.taken j.bytes × HasMemory (total j.promises) j.bytes j.frame };
+    ghost invariant = { λ j. IsKept j.since.items j.frame j.count j.taken j.bytes × HasMemory (total j.promises) j.bytes j.frame };
 }
 
 // Takes memory for a record of this length and so many bytes more, where there isn't; refused too where a batch or all records
@@ -92,7 +92,7 @@ impl Journal {
         ensures { IfOk result (λ j. j ≡ record { since = []; taken = 0; promised = map.empty }) }
     {
         Ok(Journal {
-            since: RecordsSince::new(),
+            since: Past::new(),
             frame: Frame::new(alloc)?,
             count: 0,
             taken: 0,

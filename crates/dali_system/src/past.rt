@@ -1,75 +1,54 @@
-//! What only contracts read: the records since the load, and the requests that were refused. It has no bytes, and its calls
-//! do nothing when the program runs.
+//! What only contracts read: items since the load. It has no bytes, and its calls do nothing when the program runs.
 ghost use Rattle.std.specs.Prelude.{◌≡◌, List, [], ◌∷◌, ◌++◌};
 ghost use Rattle.std.specs.Coded.{coded_list};
-ghost use Rattle.dali_record.specs.declared.records.Record.{Record};
-ghost use Rattle.dali_record.specs.contracts.records.Record.{the_row as record_row};
 ghost use Rattle.dali_log.specs.Entries.{record_of};
-ghost use Rattle.dali_runs.specs.declared.refusals.Refusal.{Refusal};
-ghost use Rattle.dali_runs.specs.contracts.refusals.Refusal.{the_row as refusal_row};
 
 use dali_log::Entry;
+use dali_record::Record;
 use dali_runs::Refusal;
-use std::marker::Model;
+use std::marker::{Model, PhantomData};
 
-/// The records since the load.
-#[derive(Drop)]
-pub(crate) struct RecordsSince {
-    ghost records: { List Record } by { coded_list record_row.coded },
+/// What is kept of a value.
+pub(crate) trait Shows<T> {
+    ghost shown: { Self → T };
 }
 
-impl Model for RecordsSince {
+impl<'a> Shows<Record> for Entry<'a> {
+    ghost shown = { record_of };
+}
+
+impl Shows<Refusal> for Refusal {
+    ghost shown = { λ refusal. refusal };
+}
+
+/// Items since the load: the records that were logged, or the requests that were refused.
+#[derive(Drop)]
+pub(crate) struct Past<T> {
+    of: PhantomData<T>,
+    ghost items: { List T } by { coded_list T.code },
+}
+
+impl<T> Model for Past<T> {
     ghost use Rattle.std.specs.Borrow.{ftrue};
 
     ghost also_owns = { λ _. ftrue };
 }
 
 // It has no bytes and owns nothing.
-unsafe impl Send for RecordsSince {}
+unsafe impl<T> Send for Past<T> {}
 
-unsafe impl Sync for RecordsSince {}
+unsafe impl<T> Sync for Past<T> {}
 
-impl RecordsSince {
-    pub(crate) fn new() -> RecordsSince
-        ensures { result.records ≡ [] }
-    {
-        RecordsSince {}
-    }
-
-    pub(crate) fn and(&self, _given: &Entry<'_>) -> RecordsSince
-        ensures { result.records ≡ self.now.records ++ record_of _given.now ∷ [] }
-    {
-        RecordsSince {}
-    }
-}
-
-/// The requests that were refused since the load.
-#[derive(Drop)]
-pub(crate) struct RefusalsSince {
-    ghost items: { List Refusal } by { coded_list refusal_row.coded },
-}
-
-impl Model for RefusalsSince {
-    ghost use Rattle.std.specs.Borrow.{ftrue};
-
-    ghost also_owns = { λ _. ftrue };
-}
-
-// It has no bytes and owns nothing.
-unsafe impl Send for RefusalsSince {}
-
-unsafe impl Sync for RefusalsSince {}
-
-impl RefusalsSince {
-    pub(crate) fn new() -> RefusalsSince
+impl<T> Past<T> {
+    pub(crate) fn new() -> Past<T>
         ensures { result.items ≡ [] }
     {
-        RefusalsSince {}
+        Past { of: PhantomData }
     }
 
-    pub(crate) fn and(&self, _refusal: &Refusal) -> RefusalsSince
-        ensures { result.items ≡ self.now.items ++ _refusal.now ∷ [] }
+    pub(crate) fn and<X: Shows<T>>(&self, _given: &X) -> Past<T>
+        ensures { result.items ≡ self.now.items ++ X.shown _given.now ∷ [] }
     {
-        RefusalsSince {}
+        Past { of: PhantomData }
     }
 }

@@ -27,7 +27,7 @@ ghost use Rattle.dali_system.specs.declared.error.SystemError.TheVariants.{OutOf
 
 use crate::error::{NotDead, SystemError};
 use crate::journal::Journal;
-use crate::past::RefusalsSince;
+use crate::past::Past;
 use crate::undos;
 use dali_att::{Att, State};
 use dali_bytes::OutOfMemory;
@@ -61,7 +61,7 @@ pub struct System {
     journal: Journal,
     table: Att<Pending>,
     locks: LockTable,
-    refusals: RefusalsSince,
+    refusals: Past<Refusal>,
     end: u64,
     next: u64,
     limit: u64,
@@ -142,7 +142,7 @@ impl System {
             journal: Journal::new(alloc)?,
             table: Att::new(alloc),
             locks: LockTable::new(alloc),
-            refusals: RefusalsSince::new(),
+            refusals: Past::new(),
             end,
             next,
             limit,

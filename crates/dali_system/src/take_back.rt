@@ -8,7 +8,7 @@ ghost use Rattle.dali_runs.specs.Steps.{back_logged};
 ghost use Rattle.dali_runs.specs.Regions.{IsOpen};
 ghost use Rattle.dali_system.specs.Receipts.{GivesReceipt};
 ghost use Rattle.dali_system.specs.TakenBack.{next_undo, want_of, IsUndoBlock, IsUndoOn};
-ghost use Rattle.dali_system.specs.UnderWay.{IsUnderWay, OneIsUnderWay, WritesNext};
+ghost use Rattle.dali_system.specs.UnderWay.{IsUnderWay, OneIsUnderWay, WritesNext, all_written};
 
 use crate::error::SystemError;
 use crate::operation::Operation;
@@ -60,6 +60,17 @@ impl TakeBack {
         ensures { result ≡ self.now.txn }
     {
         self.txn
+    }
+
+    /// Whether an operation is open, all of whose words are written: then `commit` logs its block. So who gives up the
+    /// region between two words need not lock it once more to learn that none is left.
+    pub fn is_written(&self) -> bool
+        ensures { result ≡ all_written self.now.operation }
+    {
+        match &self.operation {
+            Some(operation) => operation.is_written(),
+            None => false,
+        }
     }
 
     /// What the taking back needs next: a region, or nothing more.

@@ -110,8 +110,8 @@ fn is_removal(undo: &Undo) -> bool
     }
 }
 
-// Whether the transaction is committed.
-fn is_committed(system: &System, txn: u64) -> bool
+/// Whether the transaction is committed.
+pub fn is_committed(system: &System, txn: u64) -> bool
     ensures is { result ≡ true → state_of system.now.state txn ≡ Some Committed }
     ensures always { state_of system.now.state txn ≡ Some Committed → result ≡ true }
 {

@@ -18,7 +18,7 @@ ghost use Rattle.dali_transactions.specs.Left.{none_of, FreesIn, Left};
 ghost use Rattle.dali_transactions.specs.Steps.{CommitLogs, RemovalFrees, CommitEnds};
 
 use crate::error::CommitError;
-use crate::guards::{may_end, may_free};
+use crate::guards::{is_committed, may_end, may_free};
 use crate::parts::free_one;
 use dali_calls::single::StepError;
 use dali_core::Core;
@@ -76,7 +76,8 @@ pub fn log_commit<V: Store>(
 ///
 /// `Stopped` exactly where the engine is stopped, with that cause, and nothing changes then. Else `Unfit` exactly where the
 /// removal may not be freed: the transaction isn't committed, or the core hasn't what each point of a run has of its removal.
-/// `OutOfMemory` where memory that wasn't promised is refused. Nothing is logged then, and it may be asked for again.
+/// Nothing changes then either. `OutOfMemory` where memory that wasn't promised is refused. Nothing is logged then, and it may be
+/// asked for again.
 pub fn free_removal<V: Store>(
     core: &mut Core<V>,
     txn: u64,
@@ -92,6 +93,7 @@ pub fn free_removal<V: Store>(
     ensures locks { core.new.system.state.locks ≡ core.old.system.state.locks }
     ensures stopped { IfSome core.old.system.state.stop (λ cause. (result ≡ Err (Stopped cause)) × (core.new ≡ core.old)) }
     ensures unfit { IsErrOf result Unfit → MayFreeOn core.old.regions.items core.old.system.state txn removal.now → ⊥ }
+    ensures unchanged { IsErrOf result Unfit → core.new ≡ core.old }
     ensures memory { core.old.system.state.stop ≡ None → IfErr result (λ e. (e ≡ Unfit → ⊥) → e ≡ OutOfMemory) }
     ensures other { core.old.system.state.stop ≡ None → (MayFreeOn core.old.regions.items core.old.system.state txn removal.now → ⊥) → result ≡ Err Unfit }
     ensures vault { core.new.vault ≡ core.old.vault }
@@ -127,21 +129,28 @@ fn free_core<V: Store>(core: &mut Core<V>, txn: u64, removal: &Pending) -> Resul
 }
 
 /// Logs the end of a committed transaction, all of whose removals are freed: it has no row, no lock and no memory promised any
-/// more. It uses 9 of the bytes that are promised to the transaction, and gives the others back. Where these are promised and
-/// the engine runs, it isn't refused: it wants no memory. `Stopped` exactly where the engine is stopped, with that cause, else
-/// `OutOfMemory` where memory that wasn't promised is refused. Nothing has changed then.
+/// more. It uses 9 of the bytes that are promised to the transaction, and gives the others back. Where these are promised, the
+/// engine runs and the transaction is committed, it isn't refused: it wants no memory.
+///
+/// `Stopped` exactly where the engine is stopped, with that cause. Else `Unfit` exactly where the transaction isn't committed: it
+/// is live or dead, or has no row. `OutOfMemory` where memory that wasn't promised is refused. Nothing has changed then.
 pub fn end_commit<V: Store>(core: &mut Core<V>, txn: u64) -> Result<(), CommitError>
     ensures ok { OnOk result (CommitEnds V.Store txn core.old.regions.items core.old.system.state core.old.vault core.new.regions.items core.new.system.state) }
     ensures state { OnOk result (core.new.system.state ≡ ended_logged core.old.system.state txn) }
     ensures rest { core.new ≡ record core.old { system = core.new.system } }
     ensures err { OnErr result (core.new ≡ core.old) }
-    ensures promised { IsPromised core.old.system txn (settle_room 0) → IsOk result }
+    ensures promised { state_of core.old.system.state txn ≡ Some Committed → IsPromised core.old.system txn (settle_room 0) → IsOk result }
     ensures released { OnOk result (core.new.system.promised ≡ map.remove core.old.system.promised txn) }
     ensures stopped { IfSome core.old.system.state.stop (λ cause. result ≡ Err (Stopped cause)) }
-    ensures memory { core.old.system.state.stop ≡ None → IfErr result (λ e. e ≡ OutOfMemory) }
+    ensures unfit { IsErrOf result Unfit → state_of core.old.system.state txn ≡ Some Committed → ⊥ }
+    ensures memory { core.old.system.state.stop ≡ None → IfErr result (λ e. (e ≡ Unfit → ⊥) → e ≡ OutOfMemory) }
+    ensures other { core.old.system.state.stop ≡ None → (state_of core.old.system.state txn ≡ Some Committed → ⊥) → result ≡ Err Unfit }
 {
     if let Some(cause) = core.system.stopped() {
         return Err(CommitError::Stopped { cause });
+    }
+    if !is_committed(&core.system, txn) {
+        return Err(CommitError::Unfit);
     }
     match core.system.ended(txn) {
         Ok(_) => Ok(()),

@@ -7,7 +7,7 @@ ghost use Rattle.dali_region.specs.State.{latched, with_reads, touched, taken_ba
 ghost use Rattle.dali_runs.specs.State.{state_of};
 ghost use Rattle.dali_runs.specs.Steps.{in_state, back_logged, ended_logged};
 ghost use Rattle.dali_system.specs.TakenBack.{next_undo, IsUndoBlock, IsUndoOn};
-ghost use Rattle.dali_system.specs.UnderWay.{IsUnderWay, OneIsUnderWay, WritesNext};
+ghost use Rattle.dali_system.specs.UnderWay.{IsUnderWay, OneIsUnderWay, WritesNext, all_written};
 ghost use Rattle.dali_system.specs.Receipts.{GivesReceipt};
 ghost use Rattle.dali_system.specs.declared.want.Want.TheVariants.{Done};
 ghost use Rattle.dali_calls.specs.TakingBack.{is_claimed};
@@ -79,6 +79,14 @@ impl Cleaning {
         ensures { result ≡ self.now.latched }
     {
         self.latched
+    }
+
+    /// Whether an operation is open, all of whose words are written: then `commit` logs its block. So who gives up the
+    /// region between two words need not lock it once more to learn that none is left.
+    pub fn is_written(&self) -> bool
+        ensures { result ≡ all_written self.now.operation }
+    {
+        self.back.is_written()
     }
 
     /// What it needs next: a region, or the end of the clean-up; nothing where the claim was given back.

@@ -13,9 +13,9 @@ use dali_words::Value;
 use std::alloc::Global;
 use std::test::*;
 
-// Of an operation: whether all its words were written at its latch, how many were written then, and whether the plan tells behind
-// its record that an operation is written.
-type Seen = (bool, u32, bool);
+/// Of an operation: whether all its words were written at its latch, how many were written then, and whether the plan tells behind
+/// its record that an operation is written.
+pub(super) type Seen = (bool, u32, bool);
 
 // Writes the words of a plan's open operation, of which there are eight at most, until it tells that all are written.
 #[tactic(auto, using(dali_system::proofs::UnderWays::written_is_open))]
@@ -32,9 +32,9 @@ fn write_words(plan: &mut Plan, region: &mut Region) -> Option<u32>
     None
 }
 
-// Makes the plan's next operation on this region.
+/// Makes the plan's next operation on this region.
 #[tactic(auto, using(dali_system::proofs::Guards::some_row))]
-fn advance(plan: &mut Plan, region: &mut Region, system: &mut System) -> Option<Seen> {
+pub(super) fn advance(plan: &mut Plan, region: &mut Region, system: &mut System) -> Option<Seen> {
     if plan.is_open() {
         return None;
     }

@@ -308,11 +308,11 @@ pub no_image : (side : Side) → (Log ≢ image_name side) × (Anchor ≢ image_
 no_image A = ((λ e. absurd (cc)), λ e. absurd (cc))
 no_image B = ((λ e. absurd (cc)), λ e. absurd (cc))
 
-gates_at : (s : Start) (made : List (List Record)) (p : Point) (D : Files) → TracedTo s made p D → p.core.vault.stopped ≡ false → D.gates ≡ p.core.vault.current
+pub gates_at : (s : Start) (made : List (List Record)) (p : Point) (D : Files) → TracedTo s made p D → p.core.vault.stopped ≡ false → D.gates ≡ p.core.vault.current
 gates_at s made p D t runs = (runs_at s made p D t).anchor runs D refl
 
 -- a write to the next image leaves what the disk spells
-spells_written : (p : Point) (c d : Disk) (D : Files) → D.gates ≡ p.core.vault.current → SameBut (image_name (target p)) d c → Spells d D → Spells c D
+pub spells_written : (p : Point) (c d : Disk) (D : Files) → D.gates ≡ p.core.vault.current → SameBut (image_name (target p)) d c → Spells d D → Spells c D
 spells_written p c d D gates same is = record {
   end = is.end;
   log = subst (λ bytes. LogOf bytes D.batches is.end) (sym (same Log (no_image (target p)).0)) is.log;

@@ -82,12 +82,15 @@ ready_by old new end n closed logs anchored = record {
 -- ---- the image
 
 module _ (L : List Record) (B : List (List Record)) (n : ℕ) (p : Standing) (words : List (List ℕ)) (is : IsStanding L B n p words) where
-  image_fits : p.current < 2 ^ 62 → p.place < 2 ^ 62 → length words ≡ regions p.geometry → CanBeImage p.geometry (head_in (header_at p)) words
-  image_fits current place whole =
-      heads_fit p.geometry L (head_in (header_at p)) words (subst (λ s. IsLegalFor s L) (sym is.sizes) is.restarting.lawful.legal) is.restarting.lawful.spelled
+  -- whatever the words are
+  pub any_image_fits : (image : List (List ℕ)) → p.current < 2 ^ 62 → p.place < 2 ^ 62 → length image ≡ regions p.geometry → AllAreWords image → CanBeImage p.geometry (head_in (header_at p)) image
+  any_image_fits image current place whole all =
+      heads_fit p.geometry L (head_in (header_at p)) image (subst (λ s. IsLegalFor s L) (sym is.sizes) is.restarting.lawful.legal) is.restarting.lawful.spelled
       (none_in_nothing L is.restarting.some.0 is.restarting.some.1 is.restarting.some.2)
-      (record { first = is.first; weight = is.weight; next = is.next; table = inr refl }) (omega (arith, current)) (omega (arith, place)) whole
-      (subst AllAreWords (sym is.image) (recovered_words L is.restarting.lawful.spelled))
+      (record { first = is.first; weight = is.weight; next = is.next; table = inr refl }) (omega (arith, current)) (omega (arith, place)) whole all
+
+  image_fits : p.current < 2 ^ 62 → p.place < 2 ^ 62 → length words ≡ regions p.geometry → CanBeImage p.geometry (head_in (header_at p)) words
+  image_fits current place whole = any_image_fits words current place whole (subst AllAreWords (sym is.image) (recovered_words L is.restarting.lawful.spelled))
 
   head_is : head_in (header_at p) ≡ closed_head (n + 1) B
   head_is =

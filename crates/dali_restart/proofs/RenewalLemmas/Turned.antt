@@ -13,8 +13,9 @@ use Rattle.dali_log.specs.Anchors.{AreAnchored, HasMoved, MayHaveMoved}
 use Rattle.dali_crash.specs.Disks.Disks.{CanBeImage, IsImageOf, image_file, image_name}
 use Rattle.dali_restart.specs.declared.renewal.renewing.Standing.{Standing}
 use Rattle.dali_restart.specs.Renewal.Written.{WritesOnly, head_in, new_image}
-use Rattle.dali_restart.specs.Renewal.Renewed.{ImageTurns, LogStops, TurnStops, header_at}
+use Rattle.dali_restart.specs.Renewal.Renewed.{ImageTurns, LogKeeps, LogStops, TurnKeeps, TurnStops, header_at}
 use Rattle.dali_restart.proofs.RenewalLemmas.Images.{image_held}
+use Rattle.dali_restart.proofs.RenewalLemmas.Kept.{log_keeps, move_keeps}
 use Rattle.dali_restart.proofs.RenewalLemmas.Staged.{image_turns, log_stops, move_stops, tells_beside}
 
 module _ {V : Type 0} (told : V → Option Disk) (may_leave : V → Disk → Type 0) (moment : V → ℕ) (left_since : V → ℕ → Disk → Type 0) (counts : (s : V) (t : ℕ) (c : Disk) → t ≤ moment s → may_leave s c → left_since s t c) where
@@ -37,6 +38,11 @@ module _ {V : Type 0} (told : V → Option Disk) (may_leave : V → Disk → Typ
         if_some_both _ (told old) held (λ image.
         moved _ (told mid) (told old) same ran (λ run. move_stops told may_leave moment left_since counts f p words old mid new (file ∙ ap image_name next) only current place whole image at run)))
 
+    pub keeps_moving : IfSome (told mid) (λ _. LeavesOnly moment left_since mid new (MayHaveMoved (may_leave mid) p.current)) → IfSome (told old) (λ _. TurnKeeps may_leave moment left_since p words old new)
+    keeps_moving ran =
+        if_some_both _ (told old) held (λ image.
+        moved _ (told mid) (told old) same ran (λ run. move_keeps told may_leave moment left_since counts f p words old mid new (file ∙ ap image_name next) only image run))
+
     -- it has moved
     pub turns_moved : IfSome (told mid) (λ _. (c : Disk) → may_leave new c → HasMoved (may_leave mid) p.current c) → IfSome (told old) (λ _. ImageTurns may_leave moment left_since p words old new)
     turns_moved has =
@@ -57,3 +63,14 @@ module _ {V : Type 0} (told : V → Option Disk) (may_leave : V → Disk → Typ
       if_some_both _ (told old) ran (λ run.
       if_some_both _ (told old) has (λ added.
       moved _ (told mid) (told old) (sym tells) stopped (λ stops. log_stops told may_leave moment left_since counts p body words old mid new closed run added stops))))
+
+  pub keeps_logged_turn :
+      (p : Standing) (body : List ℕ) (words : List (List ℕ)) (old mid new : V) → is_some (told mid) ≡ is_some (told old)
+      → IfSome (told old) (λ _. LeavesOnly moment left_since old mid (SomeAdded (may_leave old) p.place (body ∷ [])))
+      → IfSome (told old) (λ _. (c : Disk) → may_leave mid c → AllAdded (may_leave old) p.place (body ∷ []) c)
+      → IfSome (told mid) (λ _. TurnKeeps may_leave moment left_since p words mid new)
+      → IfSome (told old) (λ _. LogKeeps may_leave moment left_since p body words old new)
+  keeps_logged_turn p body words old mid new tells ran has kept =
+      if_some_both _ (told old) ran (λ run.
+      if_some_both _ (told old) has (λ added.
+      moved _ (told mid) (told old) (sym tells) kept (λ keeps. log_keeps told may_leave moment left_since counts p body words old mid new run added keeps)))

@@ -15,27 +15,34 @@
 --     LogTurns, LogStops       so with the record before them; body is its bytes
 --     Renews, Stops            so it is of a renewal
 --     AnswersAlike             whatever a crash at any moment of it leaves, a restart from there hands out the same
+--     AllAre may F             each disk of these spells the files F
+--     MayBeRenewed p words F   these numbers are those of the files F, and the image can be spelled
+--     EndsWith p r F           their log ends at this place, and the record r can be spelled
+--     IsLeftOf p logged .. F c the disk c spells F; or F with the record that is to be logged; or these with the image. So the batches of F stay
+--     TurnKeeps, LogKeeps      a crash at any moment of the image and the move, or of these and the record, leaves only such disks, whatever the image's words are
+--     Keeps                    so it is of a renewal
 --     StartsRun                behind it a run may start
 --     EndsBehind               with the end that it answers
 use Rattle.std.specs.Prelude.{◌≡◌, ◌⊎◌, ◌≤◌, ◌+◌, ℕ, ⊤, List, [], ◌∷◌, ◌++◌, Option, Some, None, length, sum_by}
 use Rattle.dali_record.specs.declared.records.Record.{Record}
 use Rattle.dali_record.specs.Legal.{sizes_of, rules_state}
-use Rattle.dali_record.specs.Spelling.{record_length, spelling}
-use Rattle.dali_record.specs.Files.{Files, batch_length, next_after}
+use Rattle.dali_record.specs.Spelling.{CanBeSpelled, record_length, spelling}
+use Rattle.dali_record.specs.Files.{Files, batch_length, next_after, with_batch}
 use Rattle.dali_history.specs.Recovered.{recovered}
 use Rattle.dali_history.specs.History.{IsHistory}
 use Rattle.dali_store.specs.Store.{Files as Disk, LeavesOnly}
 use Rattle.dali_log.specs.Appending.{next_place}
 use Rattle.dali_log.specs.Batch.{IsClosedAt}
+use Rattle.dali_crash.specs.Checkpoints.{Head, turned as turned_to}
 use Rattle.dali_crash.specs.Traces.{MayRun, Start, StartsAt}
 use Rattle.dali_log.specs.Anchors.{AreAnchored}
-use Rattle.dali_crash.specs.Disks.Disks.{AllSpell, Spells}
+use Rattle.dali_crash.specs.Disks.Disks.{AllSpell, CanBeImage, Spells, sizes_in}
 use Rattle.dali_image.specs.declared.header.Header.{Header}
 use Rattle.dali_resume.specs.Again.{closing, closed_log}
 use Rattle.dali_resume.specs.Interrupted.Stages.{IsRestarting, IsLogged, IsTurned, IsAppending, IsMoving, AnswersAs}
 use Rattle.dali_restart.specs.declared.renewal.renewing.Standing.{Standing}
-use Rattle.dali_restart.specs.Renewal.Written.{image_calls}
-use Rattle.dali_restart.specs.Renewal.Logged.{restart_of, restart_bodies}
+use Rattle.dali_restart.specs.Renewal.Written.{head_in, image_calls}
+use Rattle.dali_restart.specs.Renewal.Logged.{restart_of, restart_bodies, restart_body}
 
 abbrev pub header_at : Standing → Header
 header_at p = record { geometry = p.geometry; number = p.current + 1; place = p.place; first = p.first; weight = p.weight; next = p.next; table = 4 }
@@ -93,6 +100,37 @@ pub record AreReady (may : Disk → Type 0) (end n : ℕ) : Type 0 where
 abbrev pub SpellsSome : (Files → Type 0) → Disk → Type 0
 SpellsSome P c = (F : Files) × Spells c F × P F
 
+-- ---- whatever the words of the image are
+abbrev pub AllAre : (Disk → Type 0) → Files → Type 0
+AllAre may F = (c : Disk) → may c → Spells c F
+
+abbrev pub head_at : Standing → Head
+head_at p = head_in (header_at p)
+
+abbrev pub with_restart : List ℕ → List ℕ → Files → Files
+with_restart rs ds F = with_batch F (restart_of rs ds ∷ [])
+
+abbrev pub with_image : Standing → List (List ℕ) → Files → Files
+with_image p words F = turned_to F (head_at p) words
+
+pub record MayBeRenewed (p : Standing) (words : List (List ℕ)) (F : Files) : Type 0 where
+  pub gates : F.gates ≡ p.current
+  pub sizes : sizes_in F ≡ p.geometry
+  pub image : CanBeImage p.geometry (head_at p) words
+
+pub record EndsWith (p : Standing) (r : Record) (F : Files) : Type 0 where
+  pub place : sum_by batch_length F.batches ≡ p.place
+  pub spelled : CanBeSpelled r
+
+-- where the record stands already, it isn't added
+abbrev pub MayAdd : Standing → Option ℕ → List ℕ → List ℕ → Files → Type 0
+MayAdd p None rs ds F = EndsWith p (restart_of rs ds) F
+MayAdd p (Some end) rs ds F = ⊤
+
+abbrev pub IsLeftOf : Standing → Option ℕ → List ℕ → List ℕ → List (List ℕ) → Files → Disk → Type 0
+IsLeftOf p None rs ds words F c = Spells c F ⊎ Spells c (with_restart rs ds F) ⊎ Spells c (with_image p words (with_restart rs ds F))
+IsLeftOf p (Some end) rs ds words F c = Spells c F ⊎ Spells c (with_image p words F)
+
 module _ {V : Type 0} (may_leave : V → Disk → Type 0) (moment : V → ℕ) (left_since : V → ℕ → Disk → Type 0) where
   abbrev pub ImageTurns : Standing → List (List ℕ) → V → V → Type 0
   ImageTurns p words old new =
@@ -133,6 +171,22 @@ module _ {V : Type 0} (may_leave : V → Disk → Type 0) (moment : V → ℕ) (
       (L : List Record) (B : List (List Record)) (n : ℕ) → IsHistory L → IsStanding L B n p words → Names logged rs ds L
       → AllSpell (may_leave old) (StandsAt logged L B n)
       → LeavesOnly moment left_since old new (SpellsSome (AnswersAs L))
+
+  -- the log is only added to, of any files whose end and numbers these are
+  abbrev pub TurnKeeps : Standing → List (List ℕ) → V → V → Type 0
+  TurnKeeps p words old new =
+      (F : Files) → MayBeRenewed p words F → AllAre (may_leave old) F
+      → LeavesOnly moment left_since old new (λ c. Spells c F ⊎ Spells c (with_image p words F))
+
+  abbrev pub LogKeeps : Standing → List ℕ → List (List ℕ) → V → V → Type 0
+  LogKeeps p body words old new =
+      (F : Files) (rs ds : List ℕ) → MayBeRenewed p words F → EndsWith p (restart_of rs ds) F → body ≡ restart_body rs ds → AllAre (may_leave old) F
+      → LeavesOnly moment left_since old new (IsLeftOf p None rs ds words F)
+
+  abbrev pub Keeps : Standing → Option ℕ → List ℕ → List ℕ → List (List ℕ) → V → V → Type 0
+  Keeps p logged rs ds words old new =
+      (F : Files) → MayBeRenewed p words F → MayAdd p logged rs ds F → AllAre (may_leave old) F
+      → LeavesOnly moment left_since old new (IsLeftOf p logged rs ds words F)
 
 -- the log ends where the vault says, behind the record
 module _ {V : Type 0} (may_leave : V → Disk → Type 0) where

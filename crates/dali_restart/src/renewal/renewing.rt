@@ -10,7 +10,7 @@ ghost use Rattle.dali_crash.specs.Checkpoints;
 ghost use Rattle.dali_log.specs.Anchors.{AreAnchored};
 ghost use Rattle.dali_restart.specs.Renewal.Written.{image_calls};
 ghost use Rattle.dali_restart.specs.Renewal.Logged.{restart_length, AreAscending};
-ghost use Rattle.dali_restart.specs.Renewal.Renewed.{ImageTurns, TurnStops, LogTurns, LogStops, Renews, Stops, AnswersAlike, AreReady, KeepLogs, end_before, end_of, renewal_calls};
+ghost use Rattle.dali_restart.specs.Renewal.Renewed.{ImageTurns, TurnStops, TurnKeeps, LogTurns, LogStops, LogKeeps, Renews, Stops, Keeps, AnswersAlike, AreReady, KeepLogs, end_before, end_of, renewal_calls};
 ghost use Rattle.dali_restart.specs.declared.renewal.error.RenewalError.TheVariants as errors;
 
 use crate::renewal::error::RenewalError;
@@ -63,6 +63,7 @@ fn turn_image<V: Store>(
     ensures logs { OnOk result (IfSome (V.told store.old) (λ _. KeepLogs (V.may_leave store.old) (V.may_leave store.new))) }
     ensures turns { OnOk result (IfSome (V.told store.old) (λ _. ImageTurns V.may_leave V.moment V.left_since standing.now regions.now store.old store.new)) }
     ensures stops { IfSome (V.told store.old) (λ _. TurnStops V.may_leave V.moment V.left_since standing.now regions.now store.old store.new) }
+    ensures keeps { IfSome (V.told store.old) (λ _. TurnKeeps V.may_leave V.moment V.left_since standing.now regions.now store.old store.new) }
     ensures tells { is_some (V.told store.new) ≡ is_some (V.told store.old) }
     ensures cause { HasCause (V.faults store.old) (V.faults store.new) result }
     ensures calls { OnOk result (V.lets_pass store.new ≡ fewer (image_calls (length regions.now) + 4) (V.lets_pass store.old)) }
@@ -103,6 +104,7 @@ fn log_and_turn<V: Store>(
     ensures ready { OnOk result (IfSome (V.told store.old) (λ _. AreReady (V.may_leave store.new) (next_place standing.now.place (frame.now.body ∷ [])) (standing.now.current + 1))) }
     ensures turns { OnOk result (IfSome (V.told store.old) (λ _. LogTurns V.may_leave V.moment V.left_since standing.now frame.now.body regions.now store.old store.new)) }
     ensures stops { IfSome (V.told store.old) (λ _. LogStops V.may_leave V.moment V.left_since standing.now frame.now.body regions.now store.old store.new) }
+    ensures keeps { IfSome (V.told store.old) (λ _. LogKeeps V.may_leave V.moment V.left_since standing.now frame.now.body regions.now store.old store.new) }
     ensures tells { is_some (V.told store.new) ≡ is_some (V.told store.old) }
     ensures cause { HasCause (V.faults store.old) (V.faults store.new) result }
     ensures calls { OnOk result (V.lets_pass store.new ≡ fewer (4 + (image_calls (length regions.now) + 4)) (V.lets_pass store.old)) }
@@ -123,7 +125,8 @@ fn log_and_turn<V: Store>(
 /// Let each disk that a crash may leave spell files from which the restart of a log came to these words, numbers and lists.
 /// Then each is at one of the stages of that restart, at any moment: as it was found, with the record, or with the new image.
 /// A record that stood there already stays. So a restart that follows a stop in here hands out the same records and the same
-/// lists. After Ok each has the new image, and a vault may be made over the store.
+/// lists. After Ok each has the new image, and a vault may be made over the store. Of any files that end at this place the
+/// batches of the log stay, with that record behind them or without it, whatever the words of their image are (`keeps`).
 ///
 /// `TooLong` exactly where the record is to be logged and has more than 2^30 bytes; then, and where memory is refused
 /// (`OutOfMemory`), no call is made. `Fault` exactly where the store's count of faults rose. It takes memory for one write
@@ -147,6 +150,7 @@ pub fn renew<V: Store>(
     ensures renews { OnOk result (IfSome (V.told store.old) (λ _. Renews V.may_leave V.moment V.left_since standing.now logged rolled_back.now deleted.now regions.now store.old store.new)) }
     ensures stops { IfSome (V.told store.old) (λ _. Stops V.may_leave V.moment V.left_since standing.now logged rolled_back.now deleted.now regions.now store.old store.new) }
     ensures answers { IfSome (V.told store.old) (λ _. AnswersAlike V.may_leave V.moment V.left_since standing.now logged rolled_back.now deleted.now regions.now store.old store.new) }
+    ensures keeps { IfSome (V.told store.old) (λ _. Keeps V.may_leave V.moment V.left_since standing.now logged rolled_back.now deleted.now regions.now store.old store.new) }
     ensures tells { is_some (V.told store.new) ≡ is_some (V.told store.old) }
     ensures long { IsErrOf result errors.TooLong ↔ ((logged ≡ None) × (2 ^ 30 < restart_length rolled_back.now deleted.now)) }
     ensures untouched { (IsErrOf result errors.Fault → ⊥) → OnErr result (store.new ≡ store.old) }

@@ -1,7 +1,7 @@
 //! Entries that two threads add.
 ghost use Rattle.std.specs.Prelude.{◌≡◌};
 
-use dali_notes::{Note, Notes, Tells};
+use dali_notes::{Anything, Note, Notes, Tells};
 use std::sync::{Barrier, Wait};
 use std::test::*;
 use std::thread::join;
@@ -16,7 +16,12 @@ impl Tells<u32, u64> for Shown {
 }
 
 // One entry, and once the other thread has one too, the others.
-fn add_all(rt: &impl Wait, notes: &Notes<u64>, both: &Barrier, mut note: Note<u64>) -> Note<u64>
+fn add_all(
+    rt: &impl Wait,
+    notes: &Notes<u64, Anything>,
+    both: &Barrier,
+    mut note: Note<u64, Anything>,
+) -> Note<u64, Anything>
     requires { note.table ≡ notes.now.table }
     ensures { result.table ≡ notes.now.table }
 {
@@ -30,7 +35,7 @@ fn add_all(rt: &impl Wait, notes: &Notes<u64>, both: &Barrier, mut note: Note<u6
 
 #[test]
 fn two_threads_add_and_meet(rt: HostRuntime) -> Result<(), Fail> {
-    let (notes, mut list) = Notes::<u64>::new(rt.alloc(), 2)?;
+    let (notes, mut list) = Notes::<u64, Anything>::new(rt.alloc(), 2)?;
     let (Some(second), Some(first)) = (list.pop(), list.pop()) else {
         return Err("there are two notes".into());
     };

@@ -16,7 +16,7 @@ join_seat-requires g c =
     let all = subst (AreOf c.args.board.now.table_id) c.in-Some.ensures.items c.loop-note.invariant.tables in (
       c.loop-note.invariant.table,
       ap (λ (x : Sight g.row.E.Denot). x.table) c.note.view_is ∙ of_last c.args.board.now.table_id c.pop.new.self.items c.in-Some.note all,
-      ap (λ (x : _). x.1) c.note.invariant,
+      ap (λ (x : _). x.1) c.note.invariant.0,
       omega arith,
       joins_before _ _ _ _ _,
     )
@@ -25,7 +25,7 @@ pub loop-note-preserved : goal.loop-note-preserved
 loop-note-preserved g c =
     let i = c.loop-note.invariant in
     let all = subst (AreOf c.args.board.now.table_id) c.in-Some.ensures.items i.tables in
-    let mine : c.note.inside.seat.me.0 ≡ (c.in-Some.note.number, c.in-Some.note.seen) ∷ [] = ap (λ (x : _). x.0) c.note.invariant ∙ ap (λ (x : Sight g.row.E.Denot). (x.number, x.seen) ∷ []) c.note.view_is in
+    let mine : c.note.inside.seat.me.0 ≡ (c.in-Some.note.number, c.in-Some.note.seen) ∷ [] = ap (λ (x : _). x.0) c.note.invariant.0 ∙ ap (λ (x : Sight g.row.E.Denot). (x.number, x.seen) ∷ []) c.note.view_is in
     let both : c.join_seat.new.seat.me.0 ≡ (c.in-Some.note.number, c.in-Some.note.seen) ∷ c.loop-note.seat.me.0 = ap (λ (x : _). x.0) c.join_seat.ensures.2 ∙ ap (λ w. w ++ c.loop-note.seat.me.0) mine in
     record {
       table = c.join_seat.ensures.0 ∙ i.table;
@@ -35,7 +35,7 @@ loop-note-preserved g c =
     }
 
 pub load-requires : goal.load-requires
-load-requires g c = (c.loop-note.invariant.table, omega arith, subst (λ k. Allows (Kept k) c.args.board.now.table_id.slots c.loop-note.seat.id c.loop-note.seat.me 0 (λ n. n) (Counts g.C.Counted.count (step c.args.board.now.table_id.slots 0 0 0 none) c.loop-note.seat.me)) c.requires.count (counts g.C.Counted.count _ _ _))
+load-requires g c = (c.loop-note.invariant.table, omega arith, subst (λ k. Allows (Kept g.R.Rules.may k) c.args.board.now.table_id.slots c.loop-note.seat.id c.loop-note.seat.me 0 (λ n. n) (Counts g.R.Rules.may g.C.Counted.count (step c.args.board.now.table_id.slots 0 0 0 none) c.loop-note.seat.me)) c.requires.count (counts g.C.Counted.count _ _ _))
 
 pub returns : goal.returns
 returns g c =
@@ -48,7 +48,8 @@ returns g c =
       l.0,
       record {
         seen = all_saw l.0 c.args.notes.items (subst (Fits l.0) whole l.1);
-        numbered = λ x m. subst (λ k. x.0 < k) many (l.2 x m);
-        each = λ n. sym (hands-notes n c.args.notes.items) ∙ (sym (ap (hands_of n) whole) ∙ (l.3 hands_are n ∙ ap (below n) many));
+        numbered = λ x m n is. subst (λ k. n < k) many (l.3 x m n is);
+        each = λ n. sym (hands-notes n c.args.notes.items) ∙ (sym (ap (hands_of n) whole) ∙ (l.4 hands_are n ∙ ap (below n) many));
       },
+      l.2,
     )

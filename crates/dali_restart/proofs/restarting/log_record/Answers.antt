@@ -46,12 +46,12 @@ pub returns-in-Ok-clause-written : goal.returns-in-Ok-clause-written
 returns-in-Ok-clause-written g c =
     let x = c.args.found.now in
     let o = x.reloaded.recovered in
-    written_at g.V.Store.told g.V.Store.may_leave g.V.Store.moment g.V.Store.left_since c.end_of-whole.result (at_end x) None None c.deref.result.now o.rolled_back.items c.deref-2.result.now o.deleted.items c.deref-3.result.now o.regions.items c.args.store.now c.renew.new.store _
-    c.end_of-whole.ensures refl c.deref.ensures.value c.deref-2.ensures.value c.deref-3.ensures.value c.in-Ok.ensures.renews c.in-Ok.ensures.stops
+    written_at g.V.Store c.end_of-whole.result (at_end x) None None c.deref.result.now o.rolled_back.items c.deref-2.result.now o.deleted.items c.deref-3.result.now o.regions.items c.args.store.now c.renew.new.store _
+    c.end_of-whole.ensures refl c.deref.ensures.value c.deref-2.ensures.value c.deref-3.ensures.value c.in-Ok.ensures.renews c.in-Ok.ensures.stops c.in-Ok.ensures.keeps
 
 pub returns-in-Err-clause-written : goal.returns-in-Err-clause-written
 returns-in-Err-clause-written g c =
     let x = c.args.found.now in
     let o = x.reloaded.recovered in
-    written_at g.V.Store.told g.V.Store.may_leave g.V.Store.moment g.V.Store.left_since c.end_of-whole.result (at_end x) None None c.deref.result.now o.rolled_back.items c.deref-2.result.now o.deleted.items c.deref-3.result.now o.regions.items c.args.store.now c.renew.new.store _
-    c.end_of-whole.ensures refl c.deref.ensures.value c.deref-2.ensures.value c.deref-3.ensures.value tt c.in-Err.ensures.stops
+    written_at g.V.Store c.end_of-whole.result (at_end x) None None c.deref.result.now o.rolled_back.items c.deref-2.result.now o.deleted.items c.deref-3.result.now o.regions.items c.args.store.now c.renew.new.store _
+    c.end_of-whole.ensures refl c.deref.ensures.value c.deref-2.ensures.value c.deref-3.ensures.value tt c.in-Err.ensures.stops c.in-Err.ensures.keeps

@@ -6,6 +6,7 @@ use Rattle.dali_recovery.specs.Laws.{outcome_of}
 use Rattle.dali_region.specs.State.{loaded}
 use Rattle.dali_restart.specs.declared.error.RestartError.TheVariants as errors
 use Rattle.dali_restart.specs.Restarting.{IsLeft}
+use Rattle.dali_restart.proofs.Fitting.{is_due}
 use Rattle.dali_restart.proofs.Handing.{begins_over, err_same, gives_in, left_reading, left_settling, none_read, reads_in, reads_out, rests_over}
 use Rattle.dali_restart.proofs.Idle.{rests_idle}
 use Rattle.dali_restart.proofs.restarting.restart.Goals as goal
@@ -22,7 +23,7 @@ returns-in-Err-clause-none g c = if_some_any _ (g.V.Store.told c.args.store) (λ
 pub returns-in-Err-settle-clause-long : goal.returns-in-Err-settle-clause-long
 returns-in-Err-settle-clause-long g c h =
     if_some_then _ _ (g.V.Store.told c.args.store) c.in-Ok.ensures.ok
-    (λ fs is. (outcome_of c.in-Ok.found.reloaded.recovered, reads_in fs _ c.in-Ok.found is, c.in-Err-settle.ensures.long (ap Err h)))
+    (λ fs is. (outcome_of c.in-Ok.found.reloaded.recovered, reads_in fs _ c.in-Ok.found is, (c.in-Err-settle.ensures.long.0 (ap Err h)).1))
 
 pub returns-in-Err-settle-clause-reads : goal.returns-in-Err-settle-clause-reads
 returns-in-Err-settle-clause-reads g c no_fault no_memory =
@@ -35,7 +36,7 @@ pub returns-in-Err-settle-clause-any_moment : goal.returns-in-Err-settle-clause-
 returns-in-Err-settle-clause-any_moment g c =
     let s = c.settle.new.store in
     left_settling g.V.Store c.args.store c.read.new.store s (g.met.V.Store.counts_now s) (g.met.V.Store.reads_now s)
-    c.read.ensures.store.reads c.in-Ok.found c.in-Ok.ensures.ok c.settle.ensures.any_moment c.settle.ensures.store.tells c.read.ensures.store.later c.settle.ensures.store.later c.read.ensures.store.passes c.settle.ensures.store.passes
+    c.read.ensures.store.reads c.in-Ok.found c.in-Ok.ensures.ok c.settle.ensures.any_moment c.settle.ensures.appends c.settle.ensures.store.tells c.read.ensures.store.later c.settle.ensures.store.later c.read.ensures.store.passes c.settle.ensures.store.passes
 
 -- no memory for a core
 pub returns-clause-any_moment : goal.returns-clause-any_moment
@@ -43,7 +44,7 @@ returns-clause-any_moment g c =
     let s = c.settle.new.store in
     subst (IsLeft g.V.Store c.args.store) (sym c.in-Err-rise.ensures.refused)
     (left_settling g.V.Store c.args.store c.read.new.store s (g.met.V.Store.counts_now s) (g.met.V.Store.reads_now s)
-    c.read.ensures.store.reads c.in-Ok.found c.in-Ok.ensures.ok c.settle.ensures.any_moment c.settle.ensures.store.tells c.read.ensures.store.later c.settle.ensures.store.later c.read.ensures.store.passes c.settle.ensures.store.passes)
+    c.read.ensures.store.reads c.in-Ok.found c.in-Ok.ensures.ok c.settle.ensures.any_moment c.settle.ensures.appends c.settle.ensures.store.tells c.read.ensures.store.later c.settle.ensures.store.later c.read.ensures.store.passes c.settle.ensures.store.passes)
 
 pub returns-clause-none : goal.returns-clause-none
 returns-clause-none g c = if_some_then _ _ (g.V.Store.told c.args.store) c.in-Ok.ensures.ok (λ fs is without. absurd (none_read fs _ c.in-Ok.found is without))
@@ -78,7 +79,7 @@ returns-in-Ok-rise-clause-any_moment g c =
     let s = c.settle.new.store in
     subst (IsLeft g.V.Store c.args.store) (sym (ap (λ v. v.store) c.in-Ok-rise.ensures.core.vault))
     (left_settling g.V.Store c.args.store c.read.new.store s (g.met.V.Store.counts_now s) (g.met.V.Store.reads_now s)
-    c.read.ensures.store.reads c.in-Ok.found c.in-Ok.ensures.ok c.settle.ensures.any_moment c.settle.ensures.store.tells c.read.ensures.store.later c.settle.ensures.store.later c.read.ensures.store.passes c.settle.ensures.store.passes)
+    c.read.ensures.store.reads c.in-Ok.found c.in-Ok.ensures.ok c.settle.ensures.any_moment c.settle.ensures.appends c.settle.ensures.store.tells c.read.ensures.store.later c.settle.ensures.store.later c.read.ensures.store.passes c.settle.ensures.store.passes)
 
 pub returns-in-Ok-rise-clause-idle : goal.returns-in-Ok-rise-clause-idle
 returns-in-Ok-rise-clause-idle g c =
@@ -89,3 +90,8 @@ returns-in-Ok-rise-clause-idle g c =
 
 pub returns-in-Ok-rise-clause-none : goal.returns-in-Ok-rise-clause-none
 returns-in-Ok-rise-clause-none g c = if_some_then _ _ (g.V.Store.told c.args.store) c.in-Ok.ensures.ok (λ fs is. none_read fs _ c.in-Ok.found is)
+
+pub returns-in-Ok-rise-clause-fits : goal.returns-in-Ok-rise-clause-fits
+returns-in-Ok-rise-clause-fits g c =
+    if_some_then _ _ (g.V.Store.told c.args.store) c.in-Ok.ensures.ok
+    (λ fs is o large. let e = c.in-Ok-settle.ensures.long.1 (is_due fs _ c.in-Ok.found o is large) in absurd (cc))

@@ -1,10 +1,12 @@
 use Rattle.std.proofs.Common.{◌≡◌, inl, sym, ap, subst, ◌∙◌}
 use Rattle.dali_lists.proofs.Options.{if_some_then}
+use Rattle.dali_record.specs.Blocks.{AllAreWords}
 use Rattle.dali_store.proofs.Moments.{started}
 use Rattle.dali_log.proofs.Finds.{if_some_any, if_some_two}
 use Rattle.dali_restart.specs.Renewal.Renewed.{AreReady}
 use Rattle.dali_restart.specs.declared.restarting.Due.TheVariants as dues
 use Rattle.dali_restart.specs.Deciding.{IsSmallRest, LogsRecord, Settles, WritesImage, resting_of}
+use Rattle.dali_restart.proofs.Appending.{appends_image, appends_nothing, appends_record}
 use Rattle.dali_restart.proofs.Due.{are_ready, if_ok_both, rest_is_small}
 use Rattle.dali_restart.proofs.Settling.{settles_image, settles_nothing, settles_record, stops_image, stops_record}
 use Rattle.dali_restart.proofs.restarting.settle.Goals as goal
@@ -66,3 +68,21 @@ returns-in-Image-clause-any_moment g c =
     let x = c.args.found.now in
     if_some_two _ _ _ (g.V.Store.told c.args.store.now) c.requires.read c.write_image.ensures.written.stops
     (λ fs is stops. stops_image g.V.Store.may_leave g.V.Store.moment g.V.Store.left_since fs x c.args.store.now c.write_image.new.store is.only c.in-Image.standing (sym c.decide.ensures ∙ c.in-Image.is) stops is.reads)
+
+-- the log is only added to
+pub returns-in-Nothing-clause-appends : goal.returns-in-Nothing-clause-appends
+returns-in-Nothing-clause-appends g c =
+    let s = c.args.store.now in
+    if_some_any _ (g.V.Store.told s) (λ fs. appends_nothing g.V.Store.may_leave g.V.Store.moment g.V.Store.left_since fs s (λ d left. g.met.V.Store.only_now s d left))
+
+pub returns-in-Record-clause-appends : goal.returns-in-Record-clause-appends
+returns-in-Record-clause-appends g c =
+    let x = c.args.found.now in
+    if_some_two _ _ _ (g.V.Store.told c.args.store.now) c.requires.read c.log_record.ensures.written.keeps
+    (λ fs is keeps. appends_record g.V.Store.may_leave g.V.Store.moment g.V.Store.left_since fs x c.requires.in_order (subst AllAreWords c.deref.ensures.value c.tell_all.ensures) c.args.store.now c.log_record.new.store is.only is.reads (sym c.decide.ensures ∙ c.in-Record.is) keeps)
+
+pub returns-in-Image-clause-appends : goal.returns-in-Image-clause-appends
+returns-in-Image-clause-appends g c =
+    let x = c.args.found.now in
+    if_some_two _ _ _ (g.V.Store.told c.args.store.now) c.requires.read c.write_image.ensures.written.keeps
+    (λ fs is keeps. appends_image g.V.Store.may_leave g.V.Store.moment g.V.Store.left_since fs x c.requires.in_order (subst AllAreWords c.deref.ensures.value c.tell_all.ensures) c.args.store.now c.write_image.new.store is.only is.reads c.in-Image.standing (sym c.decide.ensures ∙ c.in-Image.is) keeps)

@@ -16,12 +16,12 @@ pub returns-in-Ok-clause-written : goal.returns-in-Ok-clause-written
 returns-in-Ok-clause-written g c =
     let x = c.args.found.now in
     let p = c.args.standing.now in
-    written_at g.V.Store.told g.V.Store.may_leave g.V.Store.moment g.V.Store.left_since p p (Some c.end_of-whole.result.place) (Some x.reloaded.end) [] [] [] [] c.deref.result.now x.reloaded.recovered.regions.items c.args.store.now c.renew.new.store _ refl
-    (ap (λ q. Some q.place) c.end_of-whole.ensures) refl refl c.deref.ensures.value c.in-Ok.ensures.renews c.in-Ok.ensures.stops
+    written_at g.V.Store p p (Some c.end_of-whole.result.place) (Some x.reloaded.end) [] [] [] [] c.deref.result.now x.reloaded.recovered.regions.items c.args.store.now c.renew.new.store _ refl
+    (ap (λ q. Some q.place) c.end_of-whole.ensures) refl refl c.deref.ensures.value c.in-Ok.ensures.renews c.in-Ok.ensures.stops c.in-Ok.ensures.keeps
 
 pub returns-in-Err-clause-written : goal.returns-in-Err-clause-written
 returns-in-Err-clause-written g c =
     let x = c.args.found.now in
     let p = c.args.standing.now in
-    written_at g.V.Store.told g.V.Store.may_leave g.V.Store.moment g.V.Store.left_since p p (Some c.end_of-whole.result.place) (Some x.reloaded.end) [] [] [] [] c.deref.result.now x.reloaded.recovered.regions.items c.args.store.now c.renew.new.store _ refl
-    (ap (λ q. Some q.place) c.end_of-whole.ensures) refl refl c.deref.ensures.value tt c.in-Err.ensures.stops
+    written_at g.V.Store p p (Some c.end_of-whole.result.place) (Some x.reloaded.end) [] [] [] [] c.deref.result.now x.reloaded.recovered.regions.items c.args.store.now c.renew.new.store _ refl
+    (ap (λ q. Some q.place) c.end_of-whole.ensures) refl refl c.deref.ensures.value tt c.in-Err.ensures.stops c.in-Err.ensures.keeps

@@ -1,82 +1,42 @@
-use Rattle.std.proofs.Common.{ℕ, List, [], ◌∷◌, refl, sym, ap, ◌∙◌, subst, arith}
-use Rattle.atomic_table.specs.Table.{Me}
-use Rattle.dali_notes.specs.History.{IsSeen}
-use Rattle.dali_notes.specs.Kept.{seen_of, with_seen}
-use Rattle.dali_notes.proofs.Moves.{View, whole, joins, looks, guests_at, two_hands, Met, met, hand_seen, seen_is}
+use Rattle.std.proofs.Common.{[], ◌∷◌, ◌++◌, sym, ap, ◌∙◌, subst, arith}
+use Rattle.dali_notes.specs.History.{IsSeen, AllMay, Sight}
+use Rattle.dali_notes.proofs.Moves.{hands, looks, hand_seen, seen_is, Met, met}
 use Rattle.dali_notes.proofs.history.Notes.meet.Given as given
 use Rattle.dali_notes.proofs.history.Notes.meet.Goals as goal
-
-pub split_seat-guest-requires : goal.split_seat-guest-requires
-split_seat-guest-requires g c = (
-  ap (λ (x : _). x.table) c.other.view_is ∙ (c.requires.1 ∙ sym (ap (λ (x : _). x.table) c.self.view_is)),
-  (let w = c.self.invariant in omega arith),
-  whole _ _ _,
-)
-
-pub join_seat-requires : goal.join_seat-requires
-join_seat-requires g c =
-    let here = sym (ap (λ (x : _). x.table) c.self.view_is) in
-    let theirs = ap (λ (x : _). x.table) c.other.view_is ∙ (c.requires.1 ∙ here) in (
-      ap (λ (x : _). x.table) c.note.view_is ∙ (c.requires.0 ∙ here),
-      c.split_seat-guest.ensures.3 ∙ theirs,
-      ap (λ (x : _). x.1) c.split_seat-guest.ensures.4,
-      (let w = c.self.invariant in omega arith),
-      joins _ _ _ _ _,
-    )
+use Rattle.dali_notes.proofs.history.Notes.meet.Goals.{After-give_back}
 
 pub load-requires : goal.load-requires
-load-requires g c =
-    let here = sym (ap (λ (x : _). x.table) c.self.view_is) in (
-      c.join_seat.ensures.0 ∙ (ap (λ (x : _). x.table) c.note.view_is ∙ (c.requires.0 ∙ here)),
-      (let w = c.self.invariant in omega arith),
-      looks _ _ _ _,
-    )
+load-requires g c = (c.lend.ensures.tables.0, (let w = c.self.invariant in omega arith), looks _ _ _ _)
 
-pub split_seat-back-requires : goal.split_seat-back-requires
-split_seat-back-requires g c =
-    let here = sym (ap (λ (x : _). x.table) c.self.view_is) in
-    let V = View g.row.E.Denot in
-    let n = c.note.inside.number in
-    let o = c.other.inside.number in
-    let s = seen_of c.note.inside.seat.me.0 in
-    let t = seen_of c.other.inside.seat.me.0 in
-    let two = two_hands n o s t c.note.inside.seat.me c.other.inside.seat.me c.split_seat-guest.result.me c.join_seat.new.seat.me c.note.invariant c.other.invariant c.split_seat-guest.ensures.4 c.join_seat.ensures.2 in
-    let l = c.load.ensures.2 in
-    let after = l.2 ∙ ap (λ (me : Me Unit (View g.row.E.Denot)). (with_seen l.0 me.0, me.1)) two in (
-      c.load.ensures.0 ∙ (c.join_seat.ensures.0 ∙ (ap (λ (x : _). x.table) c.note.view_is ∙ (c.requires.0 ∙ here))),
-      (let w = c.self.invariant in omega arith),
-      guests_at _ _ _ (n, l.0) ((o, t) ∷ []) (ap (λ (me : Me Unit (View g.row.E.Denot)). me.0) after),
-    )
-
-pub join_seat-requires-2 : goal.join_seat-requires-2
-join_seat-requires-2 g c =
-    let here = sym (ap (λ (x : _). x.table) c.self.view_is) in (
-      c.split_seat-guest.ensures.0 ∙ (ap (λ (x : _). x.table) c.other.view_is ∙ (c.requires.1 ∙ here)),
-      c.split_seat-back.ensures.3 ∙ (c.load.ensures.0 ∙ (c.join_seat.ensures.0 ∙ (ap (λ (x : _). x.table) c.note.view_is ∙ (c.requires.0 ∙ here)))),
-      ap (λ (x : _). x.1) c.split_seat-back.ensures.4,
-      (let w = c.self.invariant in omega arith),
-      joins _ _ _ _ _,
-    )
-
-abbrev now : (g : given.Over) (c : goal.After-join_seat-2 g) → (log : List (ℕ × g.row.E.Denot)) × Met c.note.inside.number c.other.inside.number (seen_of c.note.inside.seat.me.0) (seen_of c.other.inside.seat.me.0) log c.split_seat-back.new.seat.me c.join_seat-2.new.seat.me
-now g c = met c.note.inside.number c.other.inside.number c.note.inside.seat.me c.other.inside.seat.me c.split_seat-guest.new.seat.me c.split_seat-guest.result.me c.join_seat.new.seat.me c.load.new.seat.me c.split_seat-back.new.seat.me c.split_seat-back.result.me c.join_seat-2.new.seat.me
-    c.note.invariant c.other.invariant c.split_seat-guest.ensures.2 c.split_seat-guest.ensures.4 c.join_seat.ensures.2 c.load.ensures.2 c.split_seat-back.ensures.2 c.split_seat-back.ensures.4 c.join_seat-2.ensures.2
+now : (g : given.Over) (c : After-give_back g) → Met g.R.Rules.may c.args.note.now c.args.other.now c.give_back.new.seat.me c.give_back.new.other.me
+now g c = met g.R.Rules.may c.args.note.now c.args.other.now c.lend.new.seat.me c.load.new.seat.me _ _
+    (c.lend.ensures.seat ∙ (λ i. ((ap (λ (m : _). m.0) c.note.invariant.0 ∙ ap (λ x. hands (x ∷ [])) c.note.view_is) i ++ (ap (λ (m : _). m.0) c.other.invariant.0 ∙ ap (λ x. hands (x ∷ [])) c.other.view_is) i, [])))
+    c.load.ensures.2 c.give_back.ensures.seat c.give_back.ensures.other
 
 pub invariant_of-note : goal.invariant_of-note
-invariant_of-note g c = hand_seen c.note.inside.number (now g c).0 c.split_seat-back.new.seat.me (now g c).1.note
+invariant_of-note g c =
+    let m = now g c in
+    let is = m.note ∙ ap (λ (x : Sight g.row.E.Denot). ((x.number, m.log) ∷ [], [])) (sym c.note.view_is) in
+    (hand_seen c.note.inside.number m.log c.give_back.new.seat.me is, subst (AllMay g.R.Rules.may) (sym (seen_is _ _ c.give_back.new.seat.me is)) m.all)
 
 pub invariant_of-other : goal.invariant_of-other
-invariant_of-other g c = hand_seen c.other.inside.number (seen_of c.other.inside.seat.me.0) c.join_seat-2.new.seat.me (now g c).1.other
-
-pub returns : goal.returns
-returns g c =
+invariant_of-other g c =
     let m = now g c in
-    let l = seen_is c.note.inside.number m.0 c.split_seat-back.new.seat.me m.1.note in
-    let t = seen_is c.other.inside.number (seen_of c.other.inside.seat.me.0) c.join_seat-2.new.seat.me m.1.other in
-    rw (← c.note.view_is, ← c.other.view_is) (record {
-      table = c.split_seat-back.ensures.0 ∙ (c.load.ensures.0 ∙ c.join_seat.ensures.0);
-      number = refl;
-      seen = subst (λ h. IsSeen h c.note.inside.number (seen_of c.note.inside.seat.me.0)) (sym l) m.1.seen;
-      theirs = subst (λ h. IsSeen h c.other.inside.number (seen_of c.other.inside.seat.me.0)) (sym l) m.1.theirs;
-      other = λ i. record { table = (c.join_seat-2.ensures.0 ∙ c.split_seat-guest.ensures.0) i; number = c.other.inside.number; seen = t i };
-    })
+    let is = m.other ∙ ap (λ (x : Sight g.row.E.Denot). ((x.number, x.seen) ∷ [], [])) (sym c.other.view_is) in
+    (hand_seen c.other.inside.number _ c.give_back.new.other.me is, subst (AllMay g.R.Rules.may) (sym (seen_is _ _ c.give_back.new.other.me is)) c.other.invariant.1)
+
+pub returns-clause-seen : goal.returns-clause-seen
+returns-clause-seen g c = let m = now g c in subst (λ h. IsSeen h c.args.note.now.number c.args.note.now.seen) (sym (seen_is _ _ c.give_back.new.seat.me m.note)) m.seen
+
+pub returns-clause-theirs : goal.returns-clause-theirs
+returns-clause-theirs g c = let m = now g c in subst (λ h. IsSeen h c.args.other.now.number c.args.other.now.seen) (sym (seen_is _ _ c.give_back.new.seat.me m.note)) m.theirs
+
+pub returns-clause-all : goal.returns-clause-all
+returns-clause-all g c = let m = now g c in subst (AllMay g.R.Rules.may) (sym (seen_is _ _ c.give_back.new.seat.me m.note)) m.all
+
+pub returns-clause-other : goal.returns-clause-other
+returns-clause-other g c = λ i. record {
+  table = (c.give_back.ensures.tables.1 ∙ (ap (λ (x : _). x.table) c.self.view_is ∙ sym c.requires.1)) i;
+  number = (ap (λ (x : Sight g.row.E.Denot). x.number) c.other.view_is) i;
+  seen = (seen_is _ _ c.give_back.new.other.me (now g c).other) i;
+}

@@ -4,8 +4,9 @@ use Rattle.dali_crash.specs.Checkpoints.{side_of}
 use Rattle.dali_crash.specs.Disks.Disks.{image_name}
 use Rattle.dali_store.specs.declared.store.FileName.TheVariants.{Anchor}
 use Rattle.dali_restart.proofs.RenewalLemmas.Beside.{now_beside}
+use Rattle.dali_restart.proofs.RenewalLemmas.Kept.{image_keeps}
 use Rattle.dali_restart.proofs.RenewalLemmas.Staged.{anchored_beside, image_stops, logs_kept, not_image, now_anchored_next, tells_beside}
-use Rattle.dali_restart.proofs.RenewalLemmas.Turned.{stops_moving, turns_moved}
+use Rattle.dali_restart.proofs.RenewalLemmas.Turned.{keeps_moving, stops_moving, turns_moved}
 use Rattle.dali_restart.proofs.renewal.renewing.turn_image.Goals as goal
 
 pub returns-in_err-write_whole-clause-stops : goal.returns-in_err-write_whole-clause-stops
@@ -57,3 +58,20 @@ returns-clause-logs g c =
     moved _ t1 t0 (sym (tells_beside c.name_of-file.result t0 t1 c.write_whole.ensures.only.reads)) c.in_ok-move_anchor.ensures.moved
     (logs_kept (may s0) (may s1) (may c.move_anchor.new.store) c.name_of-file.result c.side_of.result c.args.standing.now.current c.name_of-file.ensures
     (now_beside g.V.Store.told may g.V.Store.moment g.V.Store.left_since c.name_of-file.result s0 s1 g.met.V.Store.counts_now c.write_whole.ensures.only))
+
+-- whatever the words of the image are
+pub returns-in_err-write_whole-clause-keeps : goal.returns-in_err-write_whole-clause-keeps
+returns-in_err-write_whole-clause-keeps g c =
+    if_some (g.V.Store.told c.args.store.now)
+    (image_keeps g.V.Store.told g.V.Store.may_leave g.V.Store.moment g.V.Store.left_since g.met.V.Store.counts_now c.name_of-file.result c.args.standing.now c.args.regions.now c.args.store.now c.write_whole.new.store
+    (c.name_of-file.ensures ∙ ap image_name c.side_of.ensures) c.write_whole.ensures.only)
+
+pub returns-in_err-move_anchor-clause-keeps : goal.returns-in_err-move_anchor-clause-keeps
+returns-in_err-move_anchor-clause-keeps g c =
+    keeps_moving g.V.Store.told g.V.Store.may_leave g.V.Store.moment g.V.Store.left_since g.met.V.Store.counts_now c.side_of.result c.name_of-file.result c.args.standing.now c.args.regions.now c.args.store.now c.write_whole.new.store c.move_anchor.new.store c.name_of-file.ensures c.side_of.ensures c.requires.small.1 c.requires.small.0 c.requires.whole
+    c.write_whole.ensures.only c.in_ok-write_whole.ensures.written c.in_ok-write_whole.ensures.durable c.requires.anchored c.move_anchor.ensures.any_moment
+
+pub returns-clause-keeps : goal.returns-clause-keeps
+returns-clause-keeps g c =
+    keeps_moving g.V.Store.told g.V.Store.may_leave g.V.Store.moment g.V.Store.left_since g.met.V.Store.counts_now c.side_of.result c.name_of-file.result c.args.standing.now c.args.regions.now c.args.store.now c.write_whole.new.store c.move_anchor.new.store c.name_of-file.ensures c.side_of.ensures c.requires.small.1 c.requires.small.0 c.requires.whole
+    c.write_whole.ensures.only c.in_ok-write_whole.ensures.written c.in_ok-write_whole.ensures.durable c.requires.anchored c.move_anchor.ensures.any_moment

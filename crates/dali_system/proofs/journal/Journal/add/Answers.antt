@@ -17,18 +17,18 @@ pub returns-in_err-self-inside-clause-small : goal.returns-in_err-self-inside-cl
 returns-in_err-self-inside-clause-small c = small_of _ c.write.new.frame c.self.inside.count c.self.inside.taken c.self.inside.bytes c.self.inside.promises (invariant_of-self c).0
 
 pub overflow_add-self : goal.overflow_add-self
-overflow_add-self c = omega (arith, c.self.invariant.0.counts, c.self.invariant.0.weighs, c.self.invariant.0.small, few c.self.inside.since.records)
+overflow_add-self c = omega (arith, c.self.invariant.0.counts, c.self.invariant.0.weighs, c.self.invariant.0.small, few c.self.inside.since.items)
 
 pub invariant_of-self-2 : goal.invariant_of-self-2
 invariant_of-self-2 c = (
-  kept_push c.self.inside.since.records c.and-self-inside.result.records (record_of c.args.given) c.self.inside.frame c.write.new.frame c.self.inside.count c.self.inside.taken c.self.inside.bytes c.in_ok-self-inside.field-0
+  kept_push c.self.inside.since.items c.and-self-inside.result.items (record_of c.args.given) c.self.inside.frame c.write.new.frame c.self.inside.count c.self.inside.taken c.self.inside.bytes c.in_ok-self-inside.field-0
       c.and-self-inside.ensures c.in_ok-self-inside.ensures.body c.in_ok-self-inside.ensures.records c.in_ok-self-inside.ensures.all.0 (omega (arith, c.in_ok-self-inside.ensures.all.1.small)) c.self.invariant.0,
   same_memory _ _ _ _ (c.all_behind-promised.ensures ∙ ap total (sym c.use_up.ensures)) c.in_ok-self-inside.ensures.all.1,
 )
 
 pub returns-clause-ok : goal.returns-clause-ok
 returns-clause-ok c =
-    view_push c.and-self-inside.result.records (record_of c.args.given) c.self.inside.taken c.self.inside.promises _ c.use_up.new.self c.args.self.now c.self.inside.since.records c.and-self-inside.ensures
+    view_push c.and-self-inside.result.items (record_of c.args.given) c.self.inside.taken c.self.inside.promises _ c.use_up.new.self c.args.self.now c.self.inside.since.items c.and-self-inside.ensures
     (c.use_up.ensures ∙ ap (λ (j : Journaled). behind j.promised c.args.uses) c.self.view_is) c.self.view_is
 
 pub returns-clause-small : goal.returns-clause-small

@@ -9,7 +9,7 @@ use Rattle.dali_system.proofs.journal.Journal.new.Goals as goal
 pub invariant_of-result : goal.invariant_of-result
 invariant_of-result c =
     let none : total c.new-3.result ≡ 0 = ap total c.new-3.ensures ∙ total_none in (
-      kept_none c.new.result.records c.in_ok-new.field-0 c.new.ensures c.in_ok-new.ensures.0 c.in_ok-new.ensures.1,
+      kept_none c.new.result.items c.in_ok-new.field-0 c.new.ensures c.in_ok-new.ensures.0 c.in_ok-new.ensures.1,
       record { frame = omega (arith, none); few = rw c.in_ok-new.ensures.0 (omega (arith, none)); small = omega (arith, none) },
     )
 

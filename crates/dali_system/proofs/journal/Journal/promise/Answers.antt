@@ -31,4 +31,4 @@ invariant_of-self-in_err-set c = (
 
 pub returns-in_err-set-clause-err : goal.returns-in_err-set-clause-err
 returns-in_err-set-clause-err c = on_err c.from_residual-in_err-set.result _ (
-    ap (λ (p : Promised). let m : Journaled = record { since = c.self.inside.since.records; taken = c.self.inside.taken; promised = p } in m) c.in_err-set.ensures.err ∙ c.self.view_is)
+    ap (λ (p : Promised). let m : Journaled = record { since = c.self.inside.since.items; taken = c.self.inside.taken; promised = p } in m) c.in_err-set.ensures.err ∙ c.self.view_is)
