@@ -1,0 +1,419 @@
+-- Lines that don't land, and what no entry tells.
+use Rattle.std.proofs.Common.{◌≡◌, ◌≢◌, ℕ, zero, suc, ◌+◌, ◌<◌, ◌≤◌, Bool, true, false, List, [], ◌∷◌, ◌++◌, length, Option, Some, None, IsSome, refl, ap, sym, subst, ◌∙◌, ◌⊎◌, inl, inr, ⊎_elim, append_assoc, arith}
+use Rattle.std.specs.Prelude.{◌==◌, ◌||◌, if◌then◌else◌, Contains, filter_map, fold, slice_get, cond, is_some}
+use Rattle.std.proofs.lemmas.Bool.{eqb-true}
+use Rattle.std.proofs.lemmas.List.{append-nil}
+use Rattle.std.proofs.lemmas.List.Concat.{flat_map-cons}
+use Rattle.std.proofs.lemmas.List.Elements.{filter_map-append, Contains-append_left, Contains-append_right}
+use Rattle.std.proofs.lemmas.List.Sums.{fold-append}
+use Rattle.dali_lists.proofs.Lists.{get_behind}
+use Rattle.dali_lists.proofs.Members.{contains_first}
+use Rattle.dali_lists.proofs.Tests.{left_true, not_both_ways}
+use Rattle.dali_runs.proofs.CountsLemmas.Lists.{some_same}
+use Rattle.dali_geometry.specs.Sizes.{Sizes}
+use Rattle.dali_record.specs.declared.operations.Block.{Block}
+use Rattle.dali_record.specs.declared.records.Record.{Record}
+use Rattle.dali_record.specs.declared.records.Record.TheVariants.{Begin, Commit, AuditClean}
+use Rattle.dali_record.specs.Legal.{Rules, rules_state, rules_next, rules_step, rules_first, rules_behind, runs, has_room}
+use Rattle.dali_record.proofs.Ends.{by_push}
+use Rattle.dali_record.proofs.Pushes.{rules_state_push}
+use Rattle.dali_runs.specs.Counts.Counts.{next_with}
+use Rattle.dali_runs.specs.State.{CoreState, stable, taken_to, state_of}
+use Rattle.dali_runs.specs.Run.{Bases, no_image}
+use Rattle.dali_runs.specs.Regions.{IsOpen, is_alive}
+use Rattle.dali_runs.specs.Courses.{Step, Operates, TakesBack, Frees, IsStep}
+use Rattle.dali_region.specs.State.{RegionState}
+use Rattle.dali_lists.proofs.Numbers.{eqb-self}
+use Rattle.dali_runs.proofs.CountsLemmas.NewNumbers.{next_grows}
+use Rattle.dali_runs.proofs.CountsLemmas.Tallies.{tells_step, if_kept, if_none}
+use Rattle.dali_crash.specs.Checkpoints.{StoreStep, Does, Starts, Keeps, Copies, Skips, WritesHead, Syncs, Turns, CopyFails, HeadFails, SyncFails, TurnFails, Finishes, Head, Point, MayTurn, IsPointStep, IsPointCourse, moment_of}
+use Rattle.dali_crash.specs.Growth.{GoesOn}
+use Rattle.dali_crash.specs.StoreRuns.{StoreRun}
+use Rattle.dali_crash.proofs.StepLeaves.{vault_goes}
+use Rattle.dali_crash.proofs.Growth.{course_grows}
+use Rattle.dali_crash.proofs.StoreRuns.{bare_store_course_keeps}
+use Rattle.dali_transcripts.specs.Words.{Said, StoreFailed, CommitOk}
+use Rattle.dali_transcripts.specs.World.{Deed, Logs, Claims, GetsLock, StartsCheckpoint, MovesAnchor, EndsCheckpoint, Meets, span_step, Happening, World, record_of, logged_by, IsFlushed, lock_after, lock_at, has_failed, failing, state_step}
+use Rattle.dali_transcripts.specs.Moves.{Receipt, Spot, TakenBack, LeftBehind, Move, GivesWay, GivesUp, Commits, said, own, to as leads}
+use Rattle.dali_transcripts.specs.Causes.{IsRight, AreRightFrom, HasCause}
+use Rattle.dali_transcripts.specs.Transcripts.{IsPath, said_by, own_by, deeds_of as own_deeds}
+use Rattle.dali_transcripts.specs.Rounds.{Standing, AreAnchors, AreSpans}
+use Rattle.dali_transcripts.specs.Telling.Tells.{after, Tells}
+use Rattle.dali_concurrent.specs.Entries.{Did, Latched, deed_in, deeds_of, live_by, live_step}
+use Rattle.dali_concurrent.specs.Rules.{Outset, before, log_by, state_by, live_in, DeedFits}
+use Rattle.dali_concurrent.specs.Told.{Line, History, plain, plain_one, core_told, world_told}
+use Rattle.dali_concurrent.specs.Landing.{said_in, who_in, Stands, Landing}
+use Rattle.dali_concurrent.specs.Kept.{txn_in, Follows}
+use Rattle.dali_concurrent.specs.Holds.{IsLed}
+use Rattle.dali_concurrent.specs.Clients.{ClientTold}
+use Rattle.dali_concurrent.specs.Wrong.{block_of, Unfit, Unstored, Untold}
+use Rattle.dali_concurrent.proofs.Lists.{take_length}
+use Rattle.dali_concurrent.proofs.Landing.{onward}
+use Rattle.dali_concurrent.proofs.Kept.{stands_of}
+use Rattle.dali_concurrent.proofs.Told.{plain-append}
+use Rattle.dali_concurrent.proofs.Holds.{holds_are_told, none_is_live, states_are_told}
+use Rattle.dali_concurrent.proofs.Wrong.{one_more, entry_fits, system_stays}
+
+-- ---- where a line leads
+record Goes (bases : Bases) (p : Point) (o : Outset) (T : History) (e : Line) : Type 0 where
+  from : Point
+  stood : Stands bases p o T from
+  to : Point
+  land : Landing o T e from to
+  stands : Stands bases p o (T ++ e ∷ []) to
+
+module _ (bases : Bases) (p : Point) (o : Outset) (T : History) (e : Line) (led : IsLed bases p o T) (follows : Follows bases p o T e) where
+  goes : Goes bases p o T e
+  goes =
+      let at = stands_of bases p o T led.begins led.all in
+      let l = follows.lands at.0 at.1 in
+      record { from = at.0; stood = at.1; to = l.0; land = l.1; stands = onward bases p o T e at.0 l.0 at.1 l.1 }
+
+  core_is : goes.to.core ≡ core_told o (T ++ e ∷ [])
+  core_is = goes.land.core
+
+  -- the world with its deed
+  abbrev with_deed : Deed → ℕ → World
+  with_deed x c = after (world_told o T) c (x ∷ []) goes.to.core
+
+  tells_deed : (x : Deed) (c : ℕ) → e.1.0 ≡ Did x c → Tells (with_deed x c) goes.to
+  tells_deed x c is = subst (λ z. Tells (after (world_told o T) (who_in z) (said_in z) goes.to.core) goes.to) is goes.land.goes.tells
+
+  more_flushed : stable (core_told o T) ≤ stable (core_told o (T ++ e ∷ []))
+  more_flushed = subst (λ c. stable (core_told o T) ≤ stable c) core_is goes.land.goes.grows.flushed
+
+  within_taken : stable (core_told o (T ++ e ∷ [])) ≤ taken_to (core_told o (T ++ e ∷ [])).system
+  within_taken = subst (λ c. stable c ≤ taken_to c.system) core_is goes.stands.run.run.run.frame
+
+right_behind : (w : World) (n : ℕ) (hs : List Happening) (x : Deed) (c m : ℕ) → AreRightFrom w n (hs ++ (x, c) ∷ []) → m ≡ n + length hs → IsRight w c m x
+right_behind w n [] x c m h e = let same : n ≡ m = omega (arith, e) in subst (λ k. IsRight w c k x) same h.0
+right_behind w n (y ∷ hs) x c m h e = right_behind w (n + 1) hs x c m h.1 (omega (arith, e))
+
+module _ (bases : Bases) (p : Point) (o : Outset) (T : History) (e : Line) (led : IsLed bases p o T) (follows : Follows bases p o T e) (x : Deed) (c : ℕ) (is : e.1.0 ≡ Did x c) where
+  right : IsRight (with_deed bases p o T e led follows x c) c (length (deeds_of (plain T))) x
+  right = right_behind (with_deed bases p o T e led follows x c) 0 (deeds_of (plain T)) x c (length (deeds_of (plain T))) (tells_deed bases p o T e led follows x c is).right (omega arith)
+
+-- ---- numbers that were begun
+begin_number : (s : Sizes) (h : Rules) (u : ℕ) → IsSome (rules_step s h (Begin u)) → (u == h.next) ≡ true
+begin_number s h u k = by_test (h.count == 0) k
+  where
+    by_test : (c : Bool) → IsSome (cond c (rules_first s h (Begin u)) (rules_behind s h (Begin u))) → (u == h.next) ≡ true
+    by_test true k = absurd (cc)
+    by_test false k = left_true (u == h.next) (has_room h (Begin u)) (if_kept _ _ (if_none h.failed (runs s h (Begin u)) k))
+
+record Was (s : Sizes) (L : List Record) (x : Record) (g : Rules) : Type 0 where
+  rules : Rules
+  is : rules_state s L ≡ Some rules
+  step : rules_step s rules x ≡ Some g
+
+was : (s : Sizes) (L : List Record) (x : Record) (g : Rules) → rules_state s (L ++ x ∷ []) ≡ Some g → Was s L x g
+was s L x g e = by_test (rules_state s L) refl (sym (rules_state_push s L x) ∙ e)
+  where
+    by_test : (q : Option Rules) → rules_state s L ≡ q → rules_next s q x ≡ Some g → Was s L x g
+    by_test None is f = absurd (cc)
+    by_test (Some h) is f = record { rules = h; is = is; step = f }
+
+abbrev AreBelow : Sizes → ℕ → List Record → Type 0
+AreBelow s t L = (n : ℕ) (g : Rules) → rules_state s L ≡ Some g → slice_get L n ≡ Some (Begin t) → t < g.next
+
+begins_within : {X : Type 0} (L : List X) (x y : X) (n : ℕ) → slice_get (L ++ x ∷ []) n ≡ Some y → (slice_get L n ≡ Some y) ⊎ (x ≡ y)
+begins_within [] x y zero e = inr (some_same e)
+begins_within [] x y (suc n) e = absurd (cc)
+begins_within (z ∷ L) x y zero e = inl e
+begins_within (z ∷ L) x y (suc n) e = begins_within L x y n e
+
+below_next : (s : Sizes) (t : ℕ) (L : List Record) → AreBelow s t L
+below_next s t = by_push (AreBelow s t) (λ n g e there. absurd (cc)) more
+  where
+    more : (L : List Record) (x : Record) → AreBelow s t L → AreBelow s t (L ++ x ∷ [])
+    more L x here n g e there =
+        let w = was s L x g e in
+        let up : g.next ≡ next_with x w.rules.next = (tells_step s w.rules x g w.step).2 in
+        ⊎_elim
+        (λ old. let low = here n w.rules w.is old in omega (arith, up, low, next_grows x w.rules.next))
+        (λ same.
+        let some : IsSome (rules_step s w.rules (Begin t)) = subst (λ y. IsSome (rules_step s w.rules y)) same (subst IsSome (sym w.step) refl) in
+        let number : t ≡ w.rules.next = eqb-true t w.rules.next (begin_number s w.rules t some) in
+        let one : next_with x w.rules.next ≡ w.rules.next + 1 = ap (λ y. next_with y w.rules.next) same in
+        omega (arith, up, number, one))
+        (begins_within L x (Begin t) n there)
+
+begun_once : (s : Sizes) (t n : ℕ) (L : List Record) (g : Rules) → rules_state s (L ++ Begin t ∷ []) ≡ Some g → slice_get L n ≡ Some (Begin t) → ⊥
+begun_once s t n L g e there =
+    let w = was s L (Begin t) g e in
+    let low = below_next s t L n w.rules w.is there in
+    let number : t ≡ w.rules.next = eqb-true t w.rules.next (begin_number s w.rules t (subst IsSome (sym w.step) refl)) in
+    omega (arith, low, number)
+
+module _ (bases : Bases) (p : Point) (o : Outset) (T : History) (e : Line) (led : IsLed bases p o T) (follows : Follows bases p o T e) (t c : ℕ) (is : e.1.0 ≡ Did (Logs (Begin t)) c) where
+  log_with : (goes bases p o T e led follows).to.log ≡ log_by o (plain T) ++ Begin t ∷ []
+  log_with =
+      (tells_deed bases p o T e led follows (Logs (Begin t)) c is).log
+      ∙ (ap (λ l. before o ++ l) (filter_map-append record_of (deeds_of (plain T)) ((Logs (Begin t), c) ∷ []))
+      ∙ sym (append_assoc (before o) (logged_by (deeds_of (plain T))) (Begin t ∷ [])))
+
+  not_again : (n : ℕ) → slice_get (log_by o (plain T)) n ≡ Some (Begin t) → ⊥
+  not_again n there =
+      let g = goes bases p o T e led follows in
+      let run = g.stands.run.run in
+      begun_once g.to.core.system.sizes t n (log_by o (plain T)) run.run.runs.counts.now
+      (ap (λ L. rules_state g.to.core.system.sizes L) (sym log_with ∙ run.log) ∙ run.run.runs.counts.rules) there
+
+-- ---- holds
+block_is : (L M : List Record) (c d : CoreState) (x : Step) (t : ℕ) (b : Block) → block_of x ≡ Some (t, b) → IsStep L c x M d → (g : RegionState) × (slice_get c.regions b.region ≡ Some g) × IsOpen g t b
+block_is L M c d (Operates u k) t b e s = subst (λ (z : ℕ × Block). (g : RegionState) × (slice_get c.regions z.1.region ≡ Some g) × IsOpen g z.0 z.1) (some_same e) (s.0, s.2.at, s.2.is_open)
+block_is L M c d (TakesBack u k) t b e s = subst (λ (z : ℕ × Block). (g : RegionState) × (slice_get c.regions z.1.region ≡ Some g) × IsOpen g z.0 z.1) (some_same e) (s.0, s.1.at, s.1.is_open)
+block_is L M c d (Frees u k) t b e s = subst (λ (z : ℕ × Block). (g : RegionState) × (slice_get c.regions z.1.region ≡ Some g) × IsOpen g z.0 z.1) (some_same e) (s.0, s.1.at, s.1.is_open)
+block_is L M c d x t b e s = absurd (cc)
+
+module _ (bases : Bases) (p : Point) (o : Outset) (T : History) (e : Line) (led : IsLed bases p o T) (follows : Follows bases p o T e) where
+  held_by : (t : ℕ) (b : Block) (x : Step) → block_of x ≡ Some (t, b) → e.1.2 ≡ Does x ∷ [] → txn_in (live_by b.region (plain T)) ≡ Some t
+  held_by t b x block is =
+      let g = goes bases p o T e led follows in
+      let course : IsPointCourse g.from (Does x ∷ []) g.to = subst (λ xs. IsPointCourse g.from xs g.to) is g.land.course in
+      let open_there = block_is g.from.log course.0.log g.from.core course.0.core x t b block course.1.1.0 in
+      let at : slice_get (core_told o T).regions b.region ≡ Some open_there.0 = ap (λ (d : CoreState). slice_get d.regions b.region) (sym g.stood.comes.core) ∙ open_there.1 in
+      sym (holds_are_told bases p o T led b.region open_there.0 at).1.live ∙ ap live_in open_there.2.hold
+
+  alive_there : (r t c : ℕ) → e.1.0 ≡ Latched r t c → is_alive (state_by o (plain T) t) ≡ false → ⊥
+  alive_there r t c is gone =
+      let more : IsLed bases p o (T ++ e ∷ []) = record { begins = led.begins; all = one_more bases p o T e led.all follows } in
+      let deeds : deeds_of (plain (T ++ e ∷ [])) ≡ deeds_of (plain T) =
+      ap deeds_of (plain-append T (e ∷ []))
+      ∙ (filter_map-append deed_in (plain T) (plain_one e ∷ []) ∙ (ap (λ z. deeds_of (plain T) ++ filter_map deed_in ((e.0, z) ∷ [])) is ∙ append-nil (deeds_of (plain T)))) in
+      let live : live_by r (plain (T ++ e ∷ [])) ≡ Some (t, c) =
+      ap (live_by r) (plain-append T (e ∷ []))
+      ∙ (fold-append (live_step r) None (plain T) (plain_one e ∷ [])
+      ∙ (ap (λ z. live_step r (live_by r (plain T)) (e.0, z)) is ∙ ap (λ q. if q then Some (t, c) else live_by r (plain T)) (eqb-self r))) in
+      none_is_live bases p o (T ++ e ∷ []) t more (ap is_alive (states_are_told bases p o (T ++ e ∷ []) t more ∙ ap (λ l. fold (state_step t) (state_of o.old.system t) l) deeds) ∙ gone) r c live
+
+-- ---- checkpoints
+span_last : (o : Option ℕ) (c : ℕ) (hs : List Happening) → AreSpans o (hs ++ (StartsCheckpoint, c) ∷ []) → fold span_step o hs ≡ None
+span_last o c [] h = h.0
+span_last o c ((StartsCheckpoint, d) ∷ hs) h = span_last (Some d) c hs h.1
+span_last o c ((EndsCheckpoint, d) ∷ hs) h = span_last None c hs h.1
+span_last o c (_ ∷ hs) h = span_last o c hs h
+
+span_ends : (o : Option ℕ) (c : ℕ) (hs : List Happening) → AreSpans o (hs ++ (EndsCheckpoint, c) ∷ []) → fold span_step o hs ≡ Some c
+span_ends o c [] h = h.0
+span_ends o c ((StartsCheckpoint, d) ∷ hs) h = span_ends (Some d) c hs h.1
+span_ends o c ((EndsCheckpoint, d) ∷ hs) h = span_ends None c hs h.1
+span_ends o c (_ ∷ hs) h = span_ends o c hs h
+
+pub unfit : Unfit
+unfit = record {
+  committed = λ t c bases p o T e led w f. let fits : DeedFits o (plain T) (Logs (Commit t)) c = entry_fits bases p o T e f (Did (Logs (Commit t)) c) w.0 in w.1 fits.txn;
+  claimed = λ t c bases p o T e led w f. let fits : DeedFits o (plain T) (Claims t) c = entry_fits bases p o T e f (Did (Claims t) c) w.0 in not_both_ways fits.txn.0 w.1;
+  begun = λ t c bases p o T e led w f. let fits : DeedFits o (plain T) (Logs (Begin t)) c = entry_fits bases p o T e f (Did (Logs (Begin t)) c) w.0 in w.1 fits.txn.0;
+  begun_again = λ t c n bases p o T e led w f. not_again bases p o T e led f t c w.0 n w.1;
+  granted = λ t k c m bases p o T e led w f.
+      w.1 (ap (λ l. fold (state_step t) (state_of o.old.system t) l) (sym (take_length (deeds_of (plain T)) ((GetsLock t k m, c) ∷ []))) ∙ (right bases p o T e led f (GetsLock t k m) c w.0).0);
+  granted_in_the_way = λ t k c u m n bases p o T e led w f.
+      let there : lock_at (with_deed bases p o T e led f (GetsLock t k m) c) (length (deeds_of (plain T))) u k ≡ Some n =
+      ap (λ l. lock_after (world_told o T) l u k) (take_length (deeds_of (plain T)) ((GetsLock t k m, c) ∷ [])) ∙ w.2 in
+      not_both_ways ((right bases p o T e led f (GetsLock t k m) c w.0).2 u n w.1 there) w.3;
+  unheld = λ t b x block bases p o T e led w f. w.1 (held_by bases p o T e led f t b x block w.0);
+  latch_of_dead = λ r t c bases p o T e led w f. alive_there bases p o T e led f r t c w.0 w.1;
+}
+
+-- ---- the anchor
+anchor_last : (old mid new n c : ℕ) (hs : List Happening) → AreAnchors old hs mid → AreAnchors old (hs ++ (MovesAnchor n, c) ∷ []) new → (n ≡ mid + 1) × (new ≡ n)
+anchor_last old mid new n c [] h g = (omega (arith, h, g.0), g.1)
+anchor_last old mid new n c ((MovesAnchor m, d) ∷ hs) h g = anchor_last m mid new n c hs h.1 g.1
+anchor_last old mid new n c (_ ∷ hs) h g = anchor_last old mid new n c hs h g
+
+anchor_stays : (old new : ℕ) (hs : List Happening) → AreAnchors old hs new → ((n c : ℕ) → Contains hs (MovesAnchor n, c) → ⊥) → new ≡ old
+anchor_stays old new [] h none = h
+anchor_stays old new ((MovesAnchor m, d) ∷ hs) h none = absurd (none m d (contains_first (MovesAnchor m, d) hs))
+anchor_stays old new (_ ∷ hs) h none = anchor_stays old new hs h (λ n c has. none n c (suc has.0, omega (arith, has.1), has.2))
+
+-- where it moved, it might
+record MovedAt (p q : Point) : Type 0 where
+  mid : Point
+  first : List StoreStep
+  comes : IsPointCourse p first mid
+  last : List StoreStep
+  goes : IsPointCourse mid last q
+  head : Head
+  begin : ℕ
+  number : ℕ
+  may : MayTurn mid head begin number
+
+later : (p mid q : Point) (x : StoreStep) → IsPointStep p x mid → MovedAt mid q → MovedAt p q
+later p mid q x step m = record { mid = m.mid; first = x ∷ m.first; comes = (mid, step, m.comes); last = m.last; goes = m.goes; head = m.head; begin = m.begin; number = m.number; may = m.may }
+
+current : {q z : Point} → q ≡ z → q.core.vault.current ≡ z.core.vault.current
+current e = ap (λ (y : Point). y.core.vault.current) e
+
+one_step : (p q : Point) (x : StoreStep) → IsPointStep p x q → ((h : Head) × (b k : ℕ) × MayTurn p h b k) ⊎ (q.core.vault.current ≡ p.core.vault.current)
+one_step p q (Does x) s = inr (let w = vault_goes (moment_of p) (moment_of q) x s.1 in omega (arith, w.current))
+one_step p q Starts s = inr (current s.1)
+one_step p q Keeps s = inr (current s.4)
+one_step p q (Copies r n) s = inr (current s.5)
+one_step p q (Skips r n) s = inr (current s.5)
+one_step p q (WritesHead h) s = inr (current s.1)
+one_step p q Syncs s = inr (current s.1)
+one_step p q Turns s = inl (s.0, s.1, s.2, s.4)
+one_step p q (CopyFails r ws n) s = inr (current s.4)
+one_step p q (HeadFails h n) s = inr (current s.1)
+one_step p q (SyncFails n) s = inr (current s.1)
+one_step p q (TurnFails n) s = inr (current s.5)
+one_step p q Finishes s = inr (current s.1)
+
+moved_at : (p q : Point) (xs : List StoreStep) → IsPointCourse p xs q → q.core.vault.current ≢ p.core.vault.current → MovedAt p q
+moved_at p q [] course moved = absurd (moved (ap (λ (z : Point). z.core.vault.current) (sym course)))
+moved_at p q (x ∷ xs) course moved =
+    ⊎_elim
+    (λ t. record { mid = p; first = []; comes = refl; last = x ∷ xs; goes = course; head = t.0; begin = t.1; number = t.2; may = t.3 })
+    (λ same. later p course.0 q x course.1 (moved_at course.0 q xs course.2 (λ e. moved (e ∙ same))))
+    (one_step p course.0 x course.1)
+
+front_get : {X : Type 0} (xs ys : List X) (k : ℕ) (x : X) → slice_get xs k ≡ Some x → slice_get (xs ++ ys) k ≡ Some x
+front_get [] ys k x e = absurd (cc)
+front_get (z ∷ xs) ys zero x e = e
+front_get (z ∷ xs) ys (suc k) x e = front_get xs ys k x e
+
+module _ (bases : Bases) (p : Point) (o : Outset) (T : History) (e : Line) (led : IsLed bases p o T) (follows : Follows bases p o T e) (n c : ℕ) (is : e.1.0 ≡ Did (MovesAnchor n) c) where
+  abbrev there : Goes bases p o T e
+  there = goes bases p o T e led follows
+
+  next_anchor : (n ≡ (core_told o T).vault.current + 1) × (there.to.core.vault.current ≡ n)
+  next_anchor = anchor_last o.old.vault.current (core_told o T).vault.current there.to.core.vault.current n c (deeds_of (plain T)) there.stood.tells.together.anchors
+      (tells_deed bases p o T e led follows (MovesAnchor n) c is).together.anchors
+
+  moved : MovedAt there.from there.to
+  moved = moved_at there.from there.to e.1.2 there.land.course (λ same.
+      let core : there.from.core.vault.current ≡ (core_told o T).vault.current = ap (λ (d : CoreState). d.vault.current) there.stood.comes.core in
+      let is = next_anchor in omega (arith, is.0, is.1, same, core))
+
+  log_same : there.to.log ≡ log_by o (plain T)
+  log_same =
+      (tells_deed bases p o T e led follows (MovesAnchor n) c is).log
+      ∙ (ap (λ l. before o ++ l) (filter_map-append record_of (deeds_of (plain T)) ((MovesAnchor n, c) ∷ []))
+      ∙ ap (λ l. before o ++ l) (append-nil (logged_by (deeds_of (plain T)))))
+
+  certified : (k b : ℕ) × (slice_get (log_by o (plain T)) k ≡ Some (AuditClean b)) × (k < stable (core_told o (T ++ e ∷ [])))
+  certified =
+      let m = moved in
+      let run : StoreRun bases o.made no_image m.mid = bare_store_course_keeps bases o.made there.from m.mid m.first there.stood.run m.comes in
+      let on : GoesOn o.made m.mid there.to = course_grows bases o.made m.mid there.to m.last run.run m.goes in
+      let up : stable there.to.core ≡ stable (core_told o (T ++ e ∷ [])) = ap stable there.land.core in (
+        m.number,
+        m.begin,
+        subst (λ L. slice_get L m.number ≡ Some (AuditClean m.begin)) (sym on.log ∙ log_same) (front_get m.mid.log on.more m.number (AuditClean m.begin) m.may.clean),
+        omega (arith, m.may.flushed, on.grown.flushed, up),
+      )
+
+-- ---- the store
+failed_behind : (b : Bool) (hs : List Happening) (c : ℕ) → has_failed b (hs ++ (Meets StoreFailed, c) ∷ []) ≡ true
+failed_behind b hs c = fold-append failing b hs ((Meets StoreFailed, c) ∷ [])
+
+module _ (bases : Bases) (p : Point) (o : Outset) (T : History) (led : IsLed bases p o T) where
+  failed_told : (core_told o T).vault.stopped ≡ has_failed o.old.vault.stopped (deeds_of (plain T))
+  failed_told = let at = stands_of bases p o T led.begins led.all in at.1.tells.together.faults.stopped
+
+module _ (bases : Bases) (p : Point) (o : Outset) (T : History) (e : Line) (led : IsLed bases p o T) (follows : Follows bases p o T e) (c : ℕ) (is : e.1.0 ≡ Did (Meets StoreFailed) c) where
+  stops : (goes bases p o T e led follows).to.core.vault.stopped ≡ true
+  stops = (tells_deed bases p o T e led follows (Meets StoreFailed) c is).together.faults.stopped ∙ failed_behind o.old.vault.stopped (deeds_of (plain T)) c
+
+  engine_stops : IsSome (core_told o (T ++ e ∷ [])).system.stop
+  engine_stops = subst (λ (d : CoreState). IsSome d.system.stop) (core_is bases p o T e led follows) ((goes bases p o T e led follows).stands.halts stops)
+
+  ran : has_failed o.old.vault.stopped (deeds_of (plain T)) ≡ false
+  ran =
+      ap (has_failed o.old.vault.stopped) (sym (take_length (deeds_of (plain T)) ((Meets StoreFailed, c) ∷ [])))
+      ∙ (tells_deed bases p o T e led follows (Meets StoreFailed) c is).together.faults.once (length (deeds_of (plain T))) c (get_behind (deeds_of (plain T)) (Meets StoreFailed, c) [])
+
+pub unstored : Unstored
+unstored = record {
+  untaken = λ bases p o T e led w f.
+      let same : taken_to (core_told o (T ++ e ∷ [])).system ≡ taken_to (core_told o T).system = ap taken_to (system_stays bases p o T e f w.0) in
+      omega (arith, w.1, same, within_taken bases p o T e led f);
+  again = λ bases p o T e led w f.
+      let same : taken_to (core_told o (T ++ e ∷ [])).system ≡ taken_to (core_told o T).system = ap taken_to (system_stays bases p o T e f w.0) in
+      w.2 (omega (arith, w.1, same, within_taken bases p o T e led f, more_flushed bases p o T e led f));
+  behind_fault = λ bases p o T e led w f.
+      w.1 (ap stable (sym (core_is bases p o T e led f)) ∙ (goes bases p o T e led f).land.goes.grows.sealed (failed_told bases p o T led ∙ w.0));
+  no_fault = λ c bases p o T e led w f.
+      not_both_ways (stops bases p o T e led f c w.0) (ap (λ (d : CoreState). d.vault.stopped) (core_is bases p o T e led f) ∙ w.1);
+  no_stop = λ c bases p o T e led w f. not_both_ways (engine_stops bases p o T e led f c w.0) (ap is_some w.1);
+  twice = λ c bases p o T e led w f. not_both_ways w.1 (ran bases p o T e led f c w.0);
+  by_two = λ n c bases p o T e led w f. w.1 (next_anchor bases p o T e led f n c w.0).0;
+  unclean = λ n c bases p o T e led w f.
+      let k = certified bases p o T e led f n c w.0 in let low = w.1 k.0 k.1 k.2 in omega (arith, k.3, low);
+  started = λ c bases p o T e led w f. w.1 (span_last None c (deeds_of (plain T)) (tells_deed bases p o T e led f StartsCheckpoint c w.0).together.spans);
+  ended = λ c bases p o T e led w f. w.1 (span_ends None c (deeds_of (plain T)) (tells_deed bases p o T e led f EndsCheckpoint c w.0).together.spans);
+  incomplete = λ bases p o T e led is none f.
+      let g = goes bases p o T e led f in
+      let course : IsPointCourse g.from (Turns ∷ []) g.to = subst (λ xs. IsPointCourse g.from xs g.to) is g.land.course in
+      none g.from g.stood course.1.0 course.1.1 course.1.2 course.1.4;
+}
+
+-- ---- a commit that was answered
+abbrev is_ok : Said → Bool
+is_ok CommitOk = true
+is_ok line = false
+
+abbrev has_ok : List Said → Bool
+has_ok [] = false
+has_ok (line ∷ lines) = is_ok line || has_ok lines
+
+or_left : (b c : Bool) → b ≡ true → (b || c) ≡ true
+or_left b c e = ap (λ z. z || c) e
+
+or_right : (b c : Bool) → c ≡ true → (b || c) ≡ true
+or_right true c e = refl
+or_right false c e = e
+
+ok_there : (lines : List Said) → Contains lines CommitOk → has_ok lines ≡ true
+ok_there [] (k, low, e) = absurd (omega (arith, low))
+ok_there (line ∷ lines) (zero, low, e) = let first : line ≡ CommitOk = e in or_left (is_ok line) (has_ok lines) (ap is_ok first)
+ok_there (line ∷ lines) (suc k, low, e) = or_right (is_ok line) (has_ok lines) (ok_there lines (k, omega (arith, low), e))
+
+ok_either : (xs ys : List Said) → has_ok (xs ++ ys) ≡ true → (has_ok xs ≡ true) ⊎ (has_ok ys ≡ true)
+ok_either [] ys e = inr e
+ok_either (x ∷ xs) ys e = by_test (is_ok x) e (ok_either xs ys)
+  where
+    by_test : (b : Bool) → (b || has_ok (xs ++ ys)) ≡ true → (has_ok (xs ++ ys) ≡ true → (has_ok xs ≡ true) ⊎ (has_ok ys ≡ true)) → ((b || has_ok xs) ≡ true) ⊎ (has_ok ys ≡ true)
+    by_test true e more = inl refl
+    by_test false e more = more e
+
+record Committed (w : World) (did : List Receipt) : Type 0 where
+  txn : ℕ
+  number : ℕ
+  own_one : Contains did (number, Logs (Commit txn))
+  flushed : IsFlushed w number
+
+module _ (w : World) (c : ℕ) (did : List Receipt) where
+  one_ok : (x : Move) → HasCause w c x → has_ok (said x) ≡ true → ((y : Receipt) → Contains (own x) y → Contains did y) → Committed w did
+  one_ok (Commits t tries cs d n xs rest) h ok sub = record { txn = t; number = n; own_one = sub (n, Logs (Commit t)) (contains_first (n, Logs (Commit t)) xs); flushed = h.0 }
+  one_ok (GivesWay t tries cs d xs call f ys (TakenBack n) rest) h ok sub = absurd (cc)
+  one_ok (GivesWay t tries cs d xs call f ys (LeftBehind n z) rest) h ok sub = absurd (cc)
+  one_ok (GivesUp t tries cs d xs call f ys (TakenBack n) rest) h ok sub = absurd (cc)
+  one_ok (GivesUp t tries cs d xs call f ys (LeftBehind n z) rest) h ok sub = absurd (cc)
+  one_ok x h ok sub = absurd (cc)
+
+  all_ok : (p : Spot) (xs : List Move) (q : Spot) → IsPath w c p xs q → has_ok (said_by xs) ≡ true → ((y : Receipt) → Contains (own_by xs) y → Contains did y) → Committed w did
+  all_ok p [] q path ok sub = absurd (cc)
+  all_ok p (x ∷ xs) q path ok sub =
+      ⊎_elim
+      (λ here. one_ok x path.1 here (λ y h. sub y (subst (λ l. Contains l y) (sym (flat_map-cons own x xs)) (Contains-append_left (own x) (own_by xs) y h))))
+      (λ there. all_ok (leads x) xs q path.2 there (λ y h. sub y (subst (λ l. Contains l y) (sym (flat_map-cons own x xs)) (Contains-append_right (own x) (own_by xs) y h))))
+      (ok_either (said x) (said_by xs) (ap has_ok (sym (flat_map-cons said x xs)) ∙ ok))
+
+committed_told : (s : Standing) (o : Outset) (T : History) → ClientTold o s T → Contains s.lines CommitOk → Committed (world_told o T) (own_deeds (world_told o T) s.client)
+committed_told s o T told ok =
+    let so = told.stands in
+    all_ok (world_told o T) s.client (own_deeds (world_told o T) s.client) _ so.moves _ so.path
+    (ok_there (said_by so.moves) (subst (λ l. Contains l CommitOk) so.lines_are ok))
+    (λ y h. subst (λ l. Contains l y) (sym so.did_are) (Contains-append_left (own_by so.moves) s.pending y h))
+
+pub untold : Untold
+untold = record {
+  poke = λ r g h bases p o T led w. let at = stands_of bases p o T led.begins led.all in w.2 (at.1.tells.together.pokes r g h w.0 w.1).0;
+  fault = λ bases p o T led w. not_both_ways (sym (failed_told bases p o T led) ∙ w.0) w.1;
+  turn = λ bases p o T led w.
+      let at = stands_of bases p o T led.begins led.all in
+      w.1 (anchor_stays o.old.vault.current (core_told o T).vault.current (deeds_of (plain T)) at.1.tells.together.anchors w.0);
+  commit = λ s o T told ok none. let k = committed_told s o T told ok in let low = none k.txn k.number k.own_one in let below = k.flushed in omega (arith, low, below);
+}

@@ -1,0 +1,155 @@
+-- Wrong histories: behind one whose entries all follow, no line of these follows.
+--     Never wrong              no such line follows
+--     Nowhere wrong            there is no such history
+--     NoLatch P r c            no entry among these says that the client c latched the region r
+--     Unsigned                 lines that lack who has to sign them
+--     Unlatched                deeds on a region without a latch of it, and latches that may not be
+--     Unaudited                verdicts without the passes that they tell, and passes that tell what isn't so
+--     Unfit                    deeds of transactions that aren't where they would have to be
+--     Unstored                 flushes of what wasn't taken, stops without a fault, anchors that may not move
+--     Untold                   what no entry tells
+use Rattle.std.specs.Prelude.{◌≡◌, ◌≢◌, ℕ, ◌+◌, ◌<◌, ◌≤◌, ◌==◌, Bool, true, false, List, [], ◌∷◌, ◌++◌, Option, Some, None, Contains, slice_get, take}
+use Rattle.dali_record.specs.declared.operations.Block.{Block}
+use Rattle.dali_record.specs.declared.records.Record.TheVariants.{Begin, Forward, Commit, AuditClean}
+use Rattle.dali_record.specs.Damage.{has}
+use Rattle.dali_region.specs.State.{RegionState}
+use Rattle.dali_locks.specs.declared.mode.Mode.{Mode}
+use Rattle.dali_locks.specs.Locks.{both_shared}
+use Rattle.dali_att.specs.declared.state.State.TheVariants.{Live}
+use Rattle.dali_runs.specs.State.{stable, taken_to}
+use Rattle.dali_runs.specs.Run.{Bases}
+use Rattle.dali_runs.specs.Steps.{audit_record}
+use Rattle.dali_runs.specs.Regions.{is_alive}
+use Rattle.dali_runs.specs.Courses.{Step, Operates, TakesBack, Frees}
+use Rattle.dali_crash.specs.Checkpoints.{StoreStep, Does, Head, Turns, Point, MayTurn}
+use Rattle.dali_transcripts.specs.Words.{StoreFailed, CommitOk}
+use Rattle.dali_transcripts.specs.World.{Deed, Logs, Claims, GetsLock, StartsCheckpoint, MovesAnchor, EndsCheckpoint, Meets, has_failed, is_dead_in, lock_after, stray_after, under_way}
+use Rattle.dali_transcripts.specs.Transcripts.{deeds_of as own_deeds}
+use Rattle.dali_transcripts.specs.Rounds.{Standing, is_on}
+use Rattle.dali_transcripts.specs.Touches.{touches, is_at}
+use Rattle.dali_notes.specs.History.{signs}
+use Rattle.dali_concurrent.specs.Entries.{Did, Latched, Updated, Freed, Passed, Flushed, Entries, At, system_note, vault_note, region_note, client_note, notes_of, deeds_of, live_by, actor_by}
+use Rattle.dali_concurrent.specs.Rules.{Outset, count_of, log_by, state_by, acting_for, is_looked}
+use Rattle.dali_concurrent.specs.Told.{Line, History, plain, core_told, world_told}
+use Rattle.dali_concurrent.specs.Landing.{Stands}
+use Rattle.dali_concurrent.specs.Kept.{is_silent, txn_in, HoldIs, Follows}
+use Rattle.dali_concurrent.specs.Holds.{IsLed}
+use Rattle.dali_concurrent.specs.Clients.{ClientTold}
+
+abbrev pub Never : (Outset → History → Line → Type 0) → Type 0
+Never wrong = (bases : Bases) (p : Point) (o : Outset) (T : History) (e : Line) → IsLed bases p o T → wrong o T e → Follows bases p o T e → ⊥
+
+abbrev pub Nowhere : (Outset → History → Type 0) → Type 0
+Nowhere wrong = (bases : Bases) (p : Point) (o : Outset) (T : History) → IsLed bases p o T → wrong o T → ⊥
+
+abbrev pub NoLatch : Entries → ℕ → ℕ → Type 0
+NoLatch P r c = (i t : ℕ) (ks : List ℕ) → At P i (ks, Latched r t c) → ⊥
+
+-- ---- who signs
+pub record Unsigned : Type 0 where
+  -- any entry without a note of those that sign it
+  pub entry : (k : ℕ) → Never (λ o T e. (signs k (notes_of (count_of o) e.1.0) ≡ true) × (signs k e.0 ≡ false))
+  -- so a deed without its client, or without a value on which it is made; a flush without the vault
+  pub by_client : (c : ℕ) (x : Deed) → Never (λ o T e. (e.1.0 ≡ Did x c) × (signs (client_note (count_of o) c) e.0 ≡ false))
+  pub by_region : (r c : ℕ) (x : Deed) → is_at r x ≡ true → Never (λ o T e. (e.1.0 ≡ Did x c) × (signs (region_note r) e.0 ≡ false))
+  pub by_system : (c : ℕ) (x : Deed) → (touches x).system ≡ true → Never (λ o T e. (e.1.0 ≡ Did x c) × (signs system_note e.0 ≡ false))
+  pub by_vault : (c : ℕ) (x : Deed) → (touches x).vault ≡ true → Never (λ o T e. (e.1.0 ≡ Did x c) × (signs vault_note e.0 ≡ false))
+  pub flushed : Never (λ o T e. (e.1.0 ≡ Flushed) × (signs vault_note e.0 ≡ false))
+  -- a value changes that hasn't signed
+  pub region : (r : ℕ) → Never (λ o T e. (signs (region_note r) e.0 ≡ false) × (slice_get (core_told o (T ++ e ∷ [])).regions r ≢ slice_get (core_told o T).regions r))
+  pub system : Never (λ o T e. (signs system_note e.0 ≡ false) × ((core_told o (T ++ e ∷ [])).system ≢ (core_told o T).system))
+  pub vault : Never (λ o T e. (signs vault_note e.0 ≡ false) × ((core_told o (T ++ e ∷ [])).vault ≢ (core_told o T).vault))
+  -- a store call, or a frame that is taken, without the vault
+  pub called : (i : ℕ) (x : StoreStep) → Never (λ o T e. (signs vault_note e.0 ≡ false) × (slice_get e.1.2 i ≡ Some x) × (is_silent x ≡ false))
+
+-- ---- latches
+pub record Unlatched : Type 0 where
+  -- an operation, or a death in one, whose client never latched the region
+  pub operated : (r c : ℕ) (x : Deed) → is_looked r x ≡ true → Never (λ o T e. (e.1.0 ≡ Did x c) × NoLatch (plain T) r c)
+  -- or not since a deed that ended the hold: so two under one latch
+  pub twice : (r c d : ℕ) (x y : Deed) (A R : History) (l : Line) → is_on r x ≡ true → is_looked r y ≡ true
+      → Never (λ o T e. (T ≡ A ++ l ∷ R) × (l.1.0 ≡ Did x c) × (e.1.0 ≡ Did y d) × NoLatch (plain R) r d)
+  -- or not since it did something else
+  pub behind_another : (r c : ℕ) (x y : Deed) (A R : History) (l : Line) → is_looked r y ≡ true
+      → Never (λ o T e. (T ≡ A ++ l ∷ R) × (l.1.0 ≡ Did x c) × (e.1.0 ≡ Did y c) × NoLatch (plain R) r c)
+  -- a deed, or a latch, for a transaction that another client acts for
+  pub deed_of_another : (c t : ℕ) (x : Deed) → acting_for x ≡ Some t → Never (λ o T e. (e.1.0 ≡ Did x c) × (actor_by t (plain T) ≢ Some c))
+  pub latch_of_another : (r c t : ℕ) → Never (λ o T e. (e.1.0 ≡ Latched r t c) × (actor_by t (plain T) ≢ Some c))
+  -- a latch of a region that has a hold;  an operation whose hold was let go;  a region that another client changes, or lets go, than the one whose hold it has
+  pub latched_twice : (r c t u d : ℕ) → Never (λ o T e. (e.1.0 ≡ Latched r t c) × (live_by r (plain T) ≡ Some (u, d)))
+  pub let_go : (r c : ℕ) (x : Deed) → is_looked r x ≡ true → Never (λ o T e. (e.1.0 ≡ Did x c) × (live_by r (plain T) ≡ None))
+  pub updated_by_another : (r c t d : ℕ) → Never (λ o T e. (e.1.0 ≡ Updated r c) × (live_by r (plain T) ≡ Some (t, d)) × ((c == d) ≡ false))
+  pub freed_by_another : (r c t d : ℕ) → Never (λ o T e. (e.1.0 ≡ Freed r c) × (live_by r (plain T) ≡ Some (t, d)) × ((c == d) ≡ false))
+  -- with precheck an operation for which its client latched a region whose stray writes didn't cancel
+  pub damaged : (t c : ℕ) (b : Block) (g : RegionState)
+      → Never (λ o T e. (e.1.0 ≡ Did (Logs (Forward t b)) c) × (o.precheck ≡ true) × (slice_get o.old.regions b.region ≡ Some g)
+      × ((i u : ℕ) (ks : List ℕ) → At (plain T) i (ks, Latched b.region u c) → stray_after b.region g.stray (deeds_of (take i (plain T))) ≢ 0))
+  -- a hold that is left otherwise than the entries tell it
+  pub hold : (r : ℕ) (g : RegionState)
+      → Never (λ o T e. (r < count_of o) × (signs (region_note r) e.0 ≡ true) × (slice_get (core_told o (T ++ e ∷ [])).regions r ≡ Some g) × (HoldIs o r g (plain (T ++ e ∷ [])) → ⊥))
+
+-- ---- audits
+pub record Unaudited : Type 0 where
+  -- a verdict where the audit didn't pass some region, or each of its passes of it says otherwise
+  pub unpassed : (b r c : ℕ) (found : List ℕ)
+      → Never (λ o T e. (e.1.0 ≡ Did (Logs (audit_record b found)) c) × (r < count_of o) × ((i : ℕ) (ks : List ℕ) (right : Bool) → At (plain T) i (ks, Passed r b right) → ⊥))
+  pub contrary : (b r c : ℕ) (found : List ℕ)
+      → Never (λ o T e. (e.1.0 ≡ Did (Logs (audit_record b found)) c) × (r < count_of o) × ((i : ℕ) (ks : List ℕ) (right : Bool) → At (plain T) i (ks, Passed r b right) → right ≡ has found r))
+  -- a pass that doesn't tell what the region's stray writes left
+  pub pass : (b r : ℕ) (right : Bool) (g : RegionState)
+      → Never (λ o T e. (e.1.0 ≡ Passed r b right) × (slice_get o.old.regions r ≡ Some g) × (right ≢ (stray_after r g.stray (deeds_of (plain T)) == 0)))
+
+-- ---- transactions and locks
+-- whose block the step logs
+abbrev pub block_of : Step → Option (ℕ × Block)
+block_of (Operates t b) = Some (t, b)
+block_of (TakesBack t b) = Some (t, b)
+block_of (Frees t b) = Some (t, b)
+block_of x = None
+
+pub record Unfit : Type 0 where
+  -- a commit of one that isn't live, a claim of one that isn't dead, and a number that begins while it is open
+  pub committed : (t c : ℕ) → Never (λ o T e. (e.1.0 ≡ Did (Logs (Commit t)) c) × (state_by o (plain T) t ≢ Some Live))
+  pub claimed : (t c : ℕ) → Never (λ o T e. (e.1.0 ≡ Did (Claims t) c) × (is_dead_in (state_by o (plain T) t) ≡ false))
+  pub begun : (t c : ℕ) → Never (λ o T e. (e.1.0 ≡ Did (Logs (Begin t)) c) × (state_by o (plain T) t ≢ None))
+  -- or that has begun before, also if it has ended since
+  pub begun_again : (t c n : ℕ) → Never (λ o T e. (e.1.0 ≡ Did (Logs (Begin t)) c) × (slice_get (log_by o (plain T)) n ≡ Some (Begin t)))
+  -- a grant to one that isn't live, or where another one has a lock that conflicts
+  pub granted : (t k c : ℕ) (m : Mode) → Never (λ o T e. (e.1.0 ≡ Did (GetsLock t k m) c) × (state_by o (plain T) t ≢ Some Live))
+  pub granted_in_the_way : (t k c u : ℕ) (m n : Mode)
+      → Never (λ o T e. (e.1.0 ≡ Did (GetsLock t k m) c) × ((t == u) ≡ false) × (lock_after (world_told o T) (deeds_of (plain T)) u k ≡ Some n) × (both_shared m n ≡ false))
+  -- a block that is logged of one that has no live hold of its region;  and a latch for one that isn't alive
+  pub unheld : (t : ℕ) (b : Block) (x : Step) → block_of x ≡ Some (t, b) → Never (λ o T e. (e.1.2 ≡ Does x ∷ []) × (txn_in (live_by b.region (plain T)) ≢ Some t))
+  pub latch_of_dead : (r t c : ℕ) → Never (λ o T e. (e.1.0 ≡ Latched r t c) × (is_alive (state_by o (plain T) t) ≡ false))
+
+-- ---- the store
+pub record Unstored : Type 0 where
+  -- a flush of records that weren't taken, where the system hasn't signed;  of more than was flushed, where all that was taken is
+  pub untaken : Never (λ o T e. (signs system_note e.0 ≡ false) × (taken_to (core_told o T).system < stable (core_told o (T ++ e ∷ []))))
+  pub again : Never (λ o T e. (signs system_note e.0 ≡ false) × (taken_to (core_told o T).system ≡ stable (core_told o T)) × (stable (core_told o (T ++ e ∷ [])) ≢ stable (core_told o T)))
+  -- of any, where the store has failed
+  pub behind_fault : Never (λ o T e. (has_failed o.old.vault.stopped (deeds_of (plain T)) ≡ true) × (stable (core_told o (T ++ e ∷ [])) ≢ stable (core_told o T)))
+  -- a stop by the store that leaves the vault running, one that leaves the engine running, and a second one
+  pub no_fault : (c : ℕ) → Never (λ o T e. (e.1.0 ≡ Did (Meets StoreFailed) c) × ((core_told o (T ++ e ∷ [])).vault.stopped ≡ false))
+  pub no_stop : (c : ℕ) → Never (λ o T e. (e.1.0 ≡ Did (Meets StoreFailed) c) × ((core_told o (T ++ e ∷ [])).system.stop ≡ None))
+  pub twice : (c : ℕ) → Never (λ o T e. (e.1.0 ≡ Did (Meets StoreFailed) c) × (has_failed o.old.vault.stopped (deeds_of (plain T)) ≡ true))
+  -- an anchor that moves to another number than the next one;  where no clean audit is flushed;  where the image isn't as it has to be
+  pub by_two : (n c : ℕ) → Never (λ o T e. (e.1.0 ≡ Did (MovesAnchor n) c) × (n ≢ (core_told o T).vault.current + 1))
+  pub unclean : (n c : ℕ)
+      → Never (λ o T e. (e.1.0 ≡ Did (MovesAnchor n) c) × ((k b : ℕ) → slice_get (log_by o (plain T)) k ≡ Some (AuditClean b) → stable (core_told o (T ++ e ∷ [])) ≤ k))
+  -- a checkpoint that starts where one is under way, or is ended by another client
+  pub started : (c : ℕ) → Never (λ o T e. (e.1.0 ≡ Did StartsCheckpoint c) × (under_way (deeds_of (plain T)) ≢ None))
+  pub ended : (c : ℕ) → Never (λ o T e. (e.1.0 ≡ Did EndsCheckpoint c) × (under_way (deeds_of (plain T)) ≢ Some c))
+  pub incomplete : (bases : Bases) (p : Point) (o : Outset) (T : History) (e : Line) → IsLed bases p o T → e.1.2 ≡ Turns ∷ []
+      → ((q : Point) → Stands bases p o T q → (h : Head) (b k : ℕ) → MayTurn q h b k → ⊥) → Follows bases p o T e → ⊥
+
+-- ---- what no entry tells
+pub record Untold : Type 0 where
+  -- a stray write, a stop of the vault, an anchor that moves
+  pub poke : (r : ℕ) (g h : RegionState)
+      → Nowhere (λ o T. (slice_get o.old.regions r ≡ Some g) × (slice_get (core_told o T).regions r ≡ Some h) × (h.stray ≢ stray_after r g.stray (deeds_of (plain T))))
+  pub fault : Nowhere (λ o T. ((core_told o T).vault.stopped ≡ true) × (has_failed o.old.vault.stopped (deeds_of (plain T)) ≡ false))
+  pub turn : Nowhere (λ o T. ((n c : ℕ) → Contains (deeds_of (plain T)) (MovesAnchor n, c) → ⊥) × ((core_told o T).vault.current ≢ o.old.vault.current))
+  -- a client that was answered ok to a commit of which no record is flushed
+  pub commit : (s : Standing) (o : Outset) (T : History) → ClientTold o s T → Contains s.lines CommitOk
+      → ((t n : ℕ) → Contains (own_deeds (world_told o T) s.client) (n, Logs (Commit t)) → stable (core_told o T) ≤ n) → ⊥
