@@ -1,6 +1,7 @@
 -- What a step may rely on that changes other values than those in hand.
 use Rattle.std.proofs.Common.{◌≡◌, ℕ, zero, suc, ◌<◌, Bool, true, false, [], ◌∷◌, ◌++◌, List, length, Option, Some, None, IsSomeAnd, refl, ap, sym, subst, ◌∙◌, arith}
 use Rattle.std.specs.Prelude.{slice_get, take, filter_map, fold, ◌==◌, if◌then◌else◌}
+use Rattle.std.specs.FinMap as map
 use Rattle.std.proofs.lemmas.List.{append-nil, append_assoc}
 use Rattle.std.proofs.lemmas.List.Sums.{fold-append}
 use Rattle.std.proofs.lemmas.Option.{slice_get_within}
@@ -14,8 +15,8 @@ use Rattle.dali_region.specs.declared.Hold.{Hold}
 use Rattle.dali_region.specs.State.{RegionState}
 use Rattle.dali_att.specs.declared.state.State.{State}
 use Rattle.dali_att.specs.declared.state.State.TheVariants.{Live, Dead, Cleaning, Committed}
-use Rattle.dali_runs.specs.State.{CoreState, state_of, hold_of, hold_in}
-use Rattle.dali_runs.specs.Run.{Bases}
+use Rattle.dali_runs.specs.State.{SystemState, CoreState, state_in, state_of, hold_of, hold_in}
+use Rattle.dali_runs.specs.Run.{Bases, IsRow, RunsOn}
 use Rattle.dali_runs.specs.Regions.{is_alive}
 use Rattle.dali_runs.specs.Wholes.{latched_in, IsWhole}
 use Rattle.dali_crash.specs.Checkpoints.{Point}
@@ -23,11 +24,11 @@ use Rattle.dali_transcripts.specs.World.{Deed, Logs, DiesOn, Claims, GivesBack, 
 use Rattle.dali_transcripts.specs.Rounds.{is_on}
 use Rattle.dali_notes.specs.History.{signs}
 use Rattle.dali_concurrent.specs.Entries.{Does, Latches, Entry, Did, Latched, Freed, Entries, region_note, client_note, notes_of, deeds_of, done_in, on_in, live_by, live_step, actor_by, actor_step}
-use Rattle.dali_concurrent.specs.Rules.{Outset, count_of, state_by, live_in, dead_in, dead_by, dead_step, Fits, AllFit}
+use Rattle.dali_concurrent.specs.Rules.{Outset, count_of, log_by, state_by, live_in, dead_in, dead_by, dead_step, TxnFits, Fits, AllFit}
 use Rattle.dali_concurrent.specs.Told.{Line, History, plain, plain_one, core_told}
 use Rattle.dali_concurrent.specs.Landing.{BeginsAt}
 use Rattle.dali_concurrent.specs.Kept.{txn_in, HoldIs, Follows, AllFollow}
-use Rattle.dali_concurrent.specs.Holds.{IsLed, HoldsAreTold, HoldIsOfActor, NoneIsLive, DeadIsNamed, StatesAreTold, ActorStays, LookStays}
+use Rattle.dali_concurrent.specs.Holds.{IsLed, HoldsAreTold, HoldIsOfActor, NoneIsLive, DeadIsNamed, StatesAreTold, NextIsFresh, NextMayBegin, ActorStays, LookStays}
 use Rattle.dali_concurrent.proofs.Lists.{get_of_front, by_fronts}
 use Rattle.dali_concurrent.proofs.Entries.{not_signed, not_done, not_on_it, live_left, dead_left, picked_seen, folded_seen, IdleIn, idle_of, other, not_its, deeds_push}
 use Rattle.dali_concurrent.proofs.Fitting.{fits_next, by_entries, quiet_rest}
@@ -206,6 +207,22 @@ dead_is_named bases p o T r t led low told =
 
 pub states_are_told : StatesAreTold
 states_are_told bases p o T t led = let at = stands_of bases p o T led.begins led.all in at.1.tells.together.states t
+
+pub runs_there : (bases : Bases) (p : Point) (o : Outset) (T : History) → IsLed bases p o T → RunsOn bases (log_by o (plain T)) (core_told o T)
+runs_there bases p o T led = let at = stands_of bases p o T led.begins led.all in (told_is_whole bases p o T at.0 led.begins at.1).1
+
+pub next_is_fresh : NextIsFresh
+next_is_fresh bases p o T led =
+    let y : SystemState = (core_told o T).system in
+    let run : RunsOn bases (log_by o (plain T)) (core_told o T) = runs_there bases p o T led in
+    ap state_in (subst (λ s. IsRow s (map.get y.table y.next)) (run.counts.fresh y.next (omega (arith, run.counts.next))) (run.table y.next))
+
+pub next_may_begin : NextMayBegin
+next_may_begin bases p o T y led is =
+    let n : ℕ = (core_told o T).system.next in
+    let fresh : state_of (core_told o T).system n ≡ None = next_is_fresh bases p o T led in
+    subst (λ (z : SystemState). TxnFits o (plain T) (Logs (Begin z.next))) (sym is)
+    (sym (states_are_told bases p o T n led) ∙ fresh, none_is_live bases p o T n led (ap is_alive fresh))
 
 -- ---- entries of others
 alive_there : (s : Option State) → is_alive s ≡ true → is_dead_in s ≡ true → ⊥

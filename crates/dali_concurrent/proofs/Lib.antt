@@ -10,8 +10,10 @@ pub mod Stages
 pub mod Opened
 pub mod Kept
 pub mod Holds
+pub mod Locking
 pub mod Cases
 pub mod Clients
+pub mod Amid
 pub mod Closed
 pub mod Rests
 pub mod Round

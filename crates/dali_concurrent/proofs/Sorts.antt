@@ -255,10 +255,10 @@ fault_lands bases p o T k n c v y is_v is_y runs rose = course_lands bases p o T
     stops (Some s) = refl
 
 -- ---- what is right
-front : (w : World) (ys : List Happening) → take (length w.happened) (w.happened ++ ys) ≡ w.happened
+pub front : (w : World) (ys : List Happening) → take (length w.happened) (w.happened ++ ys) ≡ w.happened
 front w ys = take-append-le (length w.happened) w.happened ys (omega arith) ∙ take_all (length w.happened) w.happened (omega arith)
 
-runs_then : (bases : Bases) (p : Point) (o : Outset) (T : History) (q : Point) (c : ℕ) (ds : List Deed) (d : CoreState) → Stands bases p o T q
+pub runs_then : (bases : Bases) (p : Point) (o : Outset) (T : History) (q : Point) (c : ℕ) (ds : List Deed) (d : CoreState) → Stands bases p o T q
     → (core_told o T).system.stop ≡ None → stop_at (after (world_told o T) c ds d) (length (world_told o T).happened) ≡ None
 runs_then bases p o T q c ds d at runs =
     let w : World = world_told o T in
@@ -280,7 +280,7 @@ weaker_shared (Some Exclusive) Shared Exclusive e = absurd (cc)
 weaker_shared None Shared Exclusive e = absurd (cc)
 weaker_shared o Exclusive n e = absurd (cc)
 
-state_then : (bases : Bases) (p : Point) (o : Outset) (T : History) (q : Point) (c : ℕ) (ds : List Deed) (d : CoreState) (t : ℕ) → Stands bases p o T q
+pub state_then : (bases : Bases) (p : Point) (o : Outset) (T : History) (q : Point) (c : ℕ) (ds : List Deed) (d : CoreState) (t : ℕ) → Stands bases p o T q
     → state_at (after (world_told o T) c ds d) (length (world_told o T).happened) t ≡ state_of (core_told o T).system t
 state_then bases p o T q c ds d t at = ap (λ xs. state_after (world_told o T) xs t) (front (world_told o T) (by c ds)) ∙ sym (at.tells.together.states t)
 

@@ -141,6 +141,7 @@ all_1 = one_more worked_bases from outset t0 begins_1 all_0 (record {
   lands = begins_land worked_bases from outset t0 (5 ∷ 0 ∷ []) 1 y0 refl (record { runs = refl; room = omega arith });
   silent = λ none. one_silent (Does Begins) refl;
   passes = refl;
+  locks = refl;
   holds = λ r g h sign at. holds_1 r g h at;
   checks = λ f. absurd (cc);
 })
@@ -169,6 +170,7 @@ all_2 = one_more worked_bases from outset t1 begins_2 all_1 (record {
   lands = begins_land worked_bases from outset t1 (6 ∷ 0 ∷ []) 2 y1 refl (record { runs = refl; room = omega arith });
   silent = λ none. one_silent (Does Begins) refl;
   passes = refl;
+  locks = refl;
   holds = λ r g h sign at. holds_2 r g h at;
   checks = λ f. absurd (cc);
 })
@@ -189,6 +191,7 @@ all_3 = one_more worked_bases from outset t2 gets_lock all_2 (record {
   lands = grants_land worked_bases from outset t2 (5 ∷ 0 ∷ []) 1 1 5 Exclusive y2 refl refl live_2 (λ u n d e. absurd (no_lock u 5 n e));
   silent = λ none. one_silent (Does (Locks 1 5 Exclusive)) refl;
   passes = refl;
+  locks = refl;
   holds = λ r g h sign at. holds_3 r g h at;
   checks = λ f. absurd (cc);
 })
@@ -244,6 +247,7 @@ all_4 = one_more worked_bases from outset t3 yields all_3 (record {
   lands = yields_land worked_bases from outset t3 (6 ∷ 0 ∷ []) 2 2 5 1 Shared y3 (Yields refusal) refl row_3 (in_the_way, omega arith) (inl refl) right_3;
   silent = λ none. one_silent (Does (Refuses 2 5 Shared 1)) refl;
   passes = refl;
+  locks = refl;
   holds = λ r g h sign at. holds_4 r g h at;
   checks = λ f. absurd (cc);
 })
@@ -261,6 +265,7 @@ all_5 = one_more worked_bases from outset t4 latches all_4 (record {
   lands = region_steps_land worked_bases from outset t4 (5 ∷ 2 ∷ []) (Latched 0 1 1) 0 opening (loaded index_words) refl refl (refl, refl, refl, alive_by _ Live (states t4 all_4 1) refl, (refl, refl, ((refl, refl), omega arith), tt, tt));
   silent = λ none. two_silent (Does (StepsOn 0 (Latch 1))) (Does (StepsOn 0 (NoteReads look.read))) refl refl;
   passes = refl;
+  locks = refl;
   holds = λ r g h sign at. holds_5 r g h at;
   checks = λ f. absurd (cc);
 })
@@ -318,6 +323,7 @@ all_6 = one_more worked_bases from outset t5 operates all_5 (record {
   lands = operates_land worked_bases from outset t5 (5 ∷ 0 ∷ 2 ∷ []) 1 1 look y4 index_held refl refl (record { runs = refl; room = omega arith }) may_look has_looked_5;
   silent = λ none. one_silent (Does (Operates 1 look)) refl;
   passes = refl;
+  locks = refl;
   holds = λ r g h sign at. holds_6 r g h at;
   checks = λ f. absurd (cc);
 })
@@ -335,6 +341,7 @@ all_7 = one_more worked_bases from outset t6 answers all_6 (record {
   lands = answers_land worked_bases from outset t6 (5 ∷ 0 ∷ []) 1 1 (Get 5) Missing y5 refl (record { runs = refl; room = omega arith }) (omega arith, omega arith, tt, refl) (record { next = refl; by = logs_by _ Live (Done 1 (Get 5) Missing) (states t6 all_6 1) refl });
   silent = λ none. one_silent (Does (Answers 1 (Get 5) Missing)) refl;
   passes = refl;
+  locks = refl;
   holds = λ r g h sign at. holds_7 r g h at;
   checks = λ f. absurd (cc);
 })
@@ -352,6 +359,7 @@ all_8 = one_more worked_bases from outset t7 commits all_7 (record {
   lands = commits_land worked_bases from outset t7 (5 ∷ 0 ∷ []) 1 1 y6 refl refl (record { next = refl; by = logs_by _ Live (Commit 1) (states t7 all_7 1) refl });
   silent = λ none. one_silent (Does (Commits 1)) refl;
   passes = refl;
+  locks = refl;
   holds = λ r g h sign at. holds_8 r g h at;
   checks = λ f. absurd (cc);
 })
@@ -369,6 +377,7 @@ all_9 = one_more worked_bases from outset t8 takes all_8 (record {
   lands = takes_land worked_bases from outset t8 (0 ∷ 1 ∷ []) y7 refl;
   silent = λ none. absurd (cc);
   passes = refl;
+  locks = refl;
   holds = λ r g h sign at. holds_9 r g h at;
   checks = λ f. absurd (cc);
 })
@@ -386,6 +395,7 @@ all_10 = one_more worked_bases from outset t9 flushes all_9 (record {
   lands = flush_lands worked_bases from outset t9 (1 ∷ []) first_vault (Begin 1 ∷ Begin 2 ∷ Forward 1 look ∷ Done 1 (Get 5) Missing ∷ Commit 1 ∷ []) refl refl refl;
   silent = λ none. absurd (cc);
   passes = refl;
+  locks = refl;
   holds = λ r g h sign at. holds_10 r g h at;
   checks = λ f. absurd (cc);
 })
@@ -416,6 +426,7 @@ all_11 = one_more worked_bases from outset t10 ends_1 all_10 (record {
   lands = ends_land worked_bases from outset t10 (5 ∷ 0 ∷ []) 1 1 y8 refl refl (record { next = refl; by = logs_by _ Committed (Ended 1) (states t10 all_10 1) refl }) (led t10 all_10) (free_10 all_10) undead_10;
   silent = λ none. one_silent (Does (Ends 1)) refl;
   passes = refl;
+  locks = refl;
   holds = λ r g h sign at. holds_11 r g h at;
   checks = λ f. absurd (cc);
 })
@@ -446,6 +457,7 @@ all_12 = one_more worked_bases from outset t11 ends_2 all_11 (record {
   lands = ends_land worked_bases from outset t11 (6 ∷ 0 ∷ []) 2 2 y9 refl refl (record { next = refl; by = logs_by _ Live (Ended 2) (states t11 all_11 2) refl }) (led t11 all_11) (free_11 all_11) undead_11;
   silent = λ none. one_silent (Does (Ends 2)) refl;
   passes = refl;
+  locks = refl;
   holds = λ r g h sign at. holds_12 r g h at;
   checks = λ f. absurd (cc);
 })
@@ -474,6 +486,7 @@ all_13 = one_more worked_bases from outset t12 begins_3 all_12 (record {
   lands = begins_land worked_bases from outset t12 (5 ∷ 0 ∷ []) 1 y10 refl (record { runs = refl; room = omega arith });
   silent = λ none. one_silent (Does Begins) refl;
   passes = refl;
+  locks = refl;
   holds = λ r g h sign at. holds_13 r g h at;
   checks = λ f. absurd (cc);
 })
@@ -491,6 +504,7 @@ all_14 = one_more worked_bases from outset t13 latches_again all_13 (record {
   lands = region_steps_land worked_bases from outset t13 (5 ∷ 3 ∷ []) (Latched 1 3 1) 1 (Latch 3 ∷ []) (loaded heap_words) refl refl (refl, refl, refl, alive_by _ Live (states t13 all_13 3) refl, tt);
   silent = λ none. one_silent (Does (StepsOn 1 (Latch 3))) refl;
   passes = refl;
+  locks = refl;
   holds = λ r g h sign at. holds_14 r g h at;
   checks = λ f. absurd (cc);
 })
@@ -525,6 +539,7 @@ all_15 = one_more worked_bases from outset t14 dies all_14 (record {
   lands = dies_land worked_bases from outset t14 (5 ∷ 0 ∷ 3 ∷ []) 1 3 1 y11 heap_held refl refl (states t14 all_14 3) refl (led t14 all_14) only_14 has_looked_14;
   silent = λ none. one_silent (Does (Dies 3 (Some 1))) refl;
   passes = refl;
+  locks = refl;
   holds = λ r g h sign at. holds_15 r g h at;
   checks = λ f. absurd (cc);
 })
@@ -550,6 +565,7 @@ all_16 = one_more worked_bases from outset t15 claims all_15 (record {
   lands = claims_land worked_bases from outset t15 (6 ∷ 0 ∷ []) 2 3 (Some 1) y12 refl (states t15 all_15 3);
   silent = λ none. one_silent (Does (ClaimsTxn 3)) refl;
   passes = refl;
+  locks = refl;
   holds = λ r g h sign at. holds_16 r g h at;
   checks = λ f. absurd (cc);
 })
@@ -567,6 +583,7 @@ all_17 = one_more worked_bases from outset t16 recovers all_16 (record {
   lands = recovers_land worked_bases from outset t16 (6 ∷ 3 ∷ []) (Freed 1 2) 1 heap_dead refl refl (record { hold = record { txn = 3; dead = true; read = 0; xor = 0; write = 0 }; at = refl; dead = refl; latched = Some 1; claimed = states t16 all_16 3 });
   silent = λ none. one_silent (Does (Recovers 1)) refl;
   passes = refl;
+  locks = refl;
   holds = λ r g h sign at. holds_17 r g h at;
   checks = λ f. absurd (cc);
 })
@@ -597,6 +614,7 @@ all_18 = one_more worked_bases from outset t17 ends_3 all_17 (record {
   lands = ends_land worked_bases from outset t17 (6 ∷ 0 ∷ []) 2 3 y13 refl refl (record { next = refl; by = logs_by _ (Cleaning (Some 1)) (Ended 3) (states t17 all_17 3) refl }) (led t17 all_17) (free_17 all_17) undead_17;
   silent = λ none. one_silent (Does (Ends 3)) refl;
   passes = refl;
+  locks = refl;
   holds = λ r g h sign at. holds_18 r g h at;
   checks = λ f. absurd (cc);
 })
@@ -614,6 +632,7 @@ all_19 = one_more worked_bases from outset t18 audit_begins all_18 (record {
   lands = audit_begins_land worked_bases from outset t18 (6 ∷ 0 ∷ []) 2 y14 refl refl (omega arith);
   silent = λ none. one_silent (Does AuditBegins) refl;
   passes = refl;
+  locks = refl;
   holds = λ r g h sign at. holds_19 r g h at;
   checks = λ f. absurd (cc);
 })
@@ -667,6 +686,7 @@ all_20 = one_more worked_bases from outset t19 passes_index all_19 (record {
   lands = step_lands worked_bases from outset t19 (2 ∷ []) (Passed 0 10 true) (OnRegion 0 (checked index_done)) (Passes 10 0) passing_19;
   silent = λ none. one_silent (Does (Passes 10 0)) refl;
   passes = refl;
+  locks = refl;
   holds = λ r g h sign at. holds_20 r g h at;
   checks = λ f. absurd (cc);
 })
@@ -705,6 +725,7 @@ all_21 = one_more worked_bases from outset t20 passes_heap all_20 (record {
   lands = step_lands worked_bases from outset t20 (3 ∷ []) (Passed 1 10 true) (OnRegion 1 (checked heap_free)) (Passes 10 1) passing_20;
   silent = λ none. one_silent (Does (Passes 10 1)) refl;
   passes = refl;
+  locks = refl;
   holds = λ r g h sign at. holds_21 r g h at;
   checks = λ f. absurd (cc);
 })
@@ -769,6 +790,7 @@ all_22 = one_more worked_bases from outset t21 audit_ends all_21 (record {
   lands = step_lands worked_bases from outset t21 (6 ∷ 0 ∷ []) (Did (Logs (AuditClean 10)) 2) (OnSystem y16) (AuditEnds 10 []) ending_21;
   silent = λ none. one_silent (Does (AuditEnds 10 [])) refl;
   passes = refl;
+  locks = refl;
   holds = λ r g h sign at. holds_22 r g h at;
   checks = λ f. absurd (cc);
 })
@@ -786,6 +808,7 @@ all_23 = one_more worked_bases from outset t22 takes_again all_22 (record {
   lands = takes_land worked_bases from outset t22 (0 ∷ 1 ∷ []) y16 refl;
   silent = λ none. absurd (cc);
   passes = refl;
+  locks = refl;
   holds = λ r g h sign at. holds_23 r g h at;
   checks = λ f. absurd (cc);
 })
@@ -803,6 +826,7 @@ all_24 = one_more worked_bases from outset t23 fails all_23 (record {
   lands = fault_lands worked_bases from outset t23 (6 ∷ 0 ∷ 1 ∷ []) 1 2 flushed_vault y17 refl refl refl (inl (omega arith));
   silent = λ none. absurd (cc);
   passes = refl;
+  locks = refl;
   holds = λ r g h sign at. holds_24 r g h at;
   checks = λ f. absurd (cc);
 })

@@ -5,18 +5,22 @@
 --     NoneIsLive               one that isn't alive has no live hold
 --     DeadIsNamed              a dead hold's transaction names its region
 --     StatesAreTold            each transaction stands as the deeds tell
+--     NextIsFresh              the next transaction's number has no row yet
+--     NextMayBegin             so it may begin, by the system in hand
 --     ActorStays               entries of others leave a transaction to who acts for it, while it is alive
 --     LookStays                they leave a look, and so do those of the region's other holders
-use Rattle.std.specs.Prelude.{◌≡◌, ℕ, ◌<◌, true, false, Some, slice_get}
+use Rattle.std.specs.Prelude.{◌≡◌, ℕ, ◌<◌, true, false, Some, None, slice_get}
+use Rattle.dali_record.specs.declared.records.Record.TheVariants.{Begin}
 use Rattle.dali_region.specs.State.{RegionState}
-use Rattle.dali_runs.specs.State.{state_of}
+use Rattle.dali_runs.specs.State.{SystemState, state_of}
 use Rattle.dali_runs.specs.Run.{Bases}
 use Rattle.dali_runs.specs.Regions.{is_alive}
 use Rattle.dali_runs.specs.Wholes.{latched_in}
 use Rattle.dali_crash.specs.Checkpoints.{Point}
+use Rattle.dali_transcripts.specs.World.{Logs}
 use Rattle.dali_notes.specs.History.{IsSeen}
 use Rattle.dali_concurrent.specs.Entries.{Entries, region_note, client_note, live_by, actor_by}
-use Rattle.dali_concurrent.specs.Rules.{Outset, count_of, state_by, dead_by, NoneLive, LookFits, AllFit}
+use Rattle.dali_concurrent.specs.Rules.{Outset, count_of, state_by, dead_by, NoneLive, TxnFits, LookFits, AllFit}
 use Rattle.dali_concurrent.specs.Told.{History, plain, core_told}
 use Rattle.dali_concurrent.specs.Landing.{BeginsAt}
 use Rattle.dali_concurrent.specs.Kept.{AllFollow, HoldIs}
@@ -47,6 +51,15 @@ abbrev pub StatesAreTold : Type 0
 StatesAreTold =
     (bases : Bases) (p : Point) (o : Outset) (T : History) (t : ℕ) → IsLed bases p o T
     → state_of (core_told o T).system t ≡ state_by o (plain T) t
+
+abbrev pub NextIsFresh : Type 0
+NextIsFresh =
+    (bases : Bases) (p : Point) (o : Outset) (T : History) → IsLed bases p o T → state_of (core_told o T).system (core_told o T).system.next ≡ None
+
+abbrev pub NextMayBegin : Type 0
+NextMayBegin =
+    (bases : Bases) (p : Point) (o : Outset) (T : History) (y : SystemState) → IsLed bases p o T → y ≡ (core_told o T).system
+    → TxnFits o (plain T) (Logs (Begin y.next))
 
 abbrev pub ActorStays : Type 0
 ActorStays =

@@ -4,6 +4,7 @@
 --     ChecksFit o T e          who makes a step of a checkpoint is the client whose checkpoint is under way, or starts one
 --     is_pass x                in the step x an audit passes a region
 --     PassesFit e xs           of these steps of the entry e just that pass is one which it tells, if it tells one
+--     is_grant x, LocksFit e xs    so it is of the grants of locks
 --     HoldIs o r g P           the hold of the region r, which is g, is as the entries tell it
 --     Follows bases p o T e    all that the entry e owes behind T
 --     may_follow bases p o     the rule of the round's history: so may each entry be added
@@ -15,9 +16,9 @@ use Rattle.std.specs.List.{list_any}
 use Rattle.dali_region.specs.State.{RegionState}
 use Rattle.dali_runs.specs.State.{SystemState}
 use Rattle.dali_runs.specs.Run.{Bases}
-use Rattle.dali_runs.specs.Courses.{Flushes, Faults, ReadFails, Takes, Passes}
+use Rattle.dali_runs.specs.Courses.{Flushes, Faults, ReadFails, Takes, Passes, Locks}
 use Rattle.dali_crash.specs.Checkpoints.{StoreStep, Does, Starts, Finishes, Point}
-use Rattle.dali_transcripts.specs.World.{StartsCheckpoint, under_way}
+use Rattle.dali_transcripts.specs.World.{GetsLock, StartsCheckpoint, under_way}
 use Rattle.dali_notes.specs.History.{signs, IsSeen}
 use Rattle.dali_concurrent.specs.Entries.{Entry, Did, Passed, Entries, client_note, deeds_of, system_note, vault_note, region_note, live_by}
 use Rattle.dali_concurrent.specs.Rules.{Outset, count_of, live_in, dead_in, dead_by, Fits}
@@ -41,6 +42,14 @@ is_pass x = false
 abbrev pub PassesFit : Entry → List StoreStep → Type 0
 PassesFit (Passed r b right) xs = xs ≡ Does (Passes b r) ∷ []
 PassesFit e xs = list_any is_pass xs ≡ false
+
+abbrev pub is_grant : StoreStep → Bool
+is_grant (Does (Locks t k m)) = true
+is_grant x = false
+
+abbrev pub LocksFit : Entry → List StoreStep → Type 0
+LocksFit (Did (GetsLock t k m) c) xs = xs ≡ Does (Locks t k m) ∷ []
+LocksFit e xs = list_any is_grant xs ≡ false
 
 abbrev pub txn_in : Option (ℕ × ℕ) → Option ℕ
 txn_in None = None
@@ -72,6 +81,8 @@ pub record Follows (bases : Bases) (p : Point) (o : Outset) (T : History) (e : L
   pub silent : signs vault_note e.0 ≡ false → (i : ℕ) (x : StoreStep) → slice_get e.1.2 i ≡ Some x → is_silent x ≡ true
   -- what an audit passes is told
   pub passes : PassesFit e.1.0 e.1.2
+  -- a lock that is granted is told
+  pub locks : LocksFit e.1.0 e.1.2
   -- who has a region's lock leaves its hold as told
   pub holds : (r : ℕ) (g : RegionState) → r < count_of o → signs (region_note r) e.0 ≡ true → slice_get (core_told o (T ++ e ∷ [])).regions r ≡ Some g
       → HoldIs o r g (plain (T ++ e ∷ []))

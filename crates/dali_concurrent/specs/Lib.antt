@@ -7,8 +7,10 @@ pub mod Copying
 pub mod Stages
 pub mod Kept
 pub mod Holds
+pub mod Locking
 pub mod Cases
 pub mod Clients
+pub mod Amid
 pub mod Closed
 pub mod Round
 pub mod Stored

@@ -6,8 +6,11 @@ ghost use Rattle.dali_concurrent.specs.Cases.{BeginsLand, AnswersLand, CommitsLa
 ghost use Rattle.dali_concurrent.specs.Cases.{OperatesLand, TakesBackLand, FreesLand, EndsLand, DiesLand, GivesBackLand, RecoversLand};
 ghost use Rattle.dali_concurrent.specs.Cases.{TakesLand, LookIsMade};
 ghost use Rattle.dali_concurrent.specs.Kept.{SystemMeets, RegionMeets};
-ghost use Rattle.dali_concurrent.specs.Holds.{HoldsAreTold, HoldIsOfActor, NoneIsLive, DeadIsNamed, StatesAreTold, ActorStays, LookStays};
+ghost use Rattle.dali_concurrent.specs.Holds.{HoldsAreTold, HoldIsOfActor, NoneIsLive, DeadIsNamed, StatesAreTold};
+ghost use Rattle.dali_concurrent.specs.Holds.{NextIsFresh, NextMayBegin, ActorStays, LookStays};
+ghost use Rattle.dali_concurrent.specs.Locking.{LocksAreTold, YieldsRight, FindsDeadRight};
 ghost use Rattle.dali_concurrent.specs.Clients.{ClientMeets};
+ghost use Rattle.dali_concurrent.specs.Amid.{OwnHoldIsSeen, NoneLiveIsSeen, OwnHoldStays, OthersLog, DeadIsSeen, FreedStaysFree};
 ghost use Rattle.dali_concurrent.specs.Closed.{RoundStands, NoneHolds};
 ghost use Rattle.dali_concurrent.specs.Round.{RoundIsDone, RoundIsCut};
 ghost use Rattle.dali_concurrent.specs.Stored.{VaultMeets, NoneInHandMeets, FlushHolds, FaultHolds, HandsOut};
@@ -54,6 +57,8 @@ pub fn what_the_system_in_hand_makes_right()
     ensures logged { RecordIsRight }
     ensures granted { GrantIsRight }
     ensures claimed { ClaimIsRight }
+    ensures yields { YieldsRight }
+    ensures dead { FindsDeadRight }
 {}
 
 /// Deeds of a round, each by what the value under the lock gives.
@@ -101,6 +106,9 @@ pub fn what_others_leave_may_be_relied_on()
     ensures live { NoneIsLive }
     ensures dead { DeadIsNamed }
     ensures states { StatesAreTold }
+    ensures fresh { NextIsFresh }
+    ensures begins { NextMayBegin }
+    ensures locks { LocksAreTold }
     ensures stays { ActorStays }
     ensures looks { LookStays }
 {}
@@ -110,6 +118,16 @@ pub fn a_meeting_leaves_the_value()
     ensures system { SystemMeets }
     ensures region { RegionMeets }
     ensures client { ClientMeets }
+{}
+
+/// What a client amid a call may rely on that has only its own note.
+pub fn a_client_amid_a_call_may_rely_on_its_own()
+    ensures hold { OwnHoldIsSeen }
+    ensures none { NoneLiveIsSeen }
+    ensures stays { OwnHoldStays }
+    ensures others { OthersLog }
+    ensures dead { DeadIsSeen }
+    ensures freed { FreedStaysFree }
 {}
 
 /// Once every note has seen all of its own entries the values stand behind a run, whole; no client that is alive has latched a
