@@ -1,8 +1,7 @@
 -- What a client amid a call may rely on.
-use Rattle.std.proofs.Common.{◌≡◌, ℕ, zero, suc, Bool, true, false, List, [], ◌∷◌, ◌++◌, Option, Some, None, refl, ap, sym, subst, ◌∙◌, ◌⊎◌, inl, inr}
-use Rattle.std.specs.Prelude.{slice_get, fold, ◌==◌, ◌||◌, if◌then◌else◌}
+use Rattle.std.proofs.Common.{◌≡◌, ℕ, zero, suc, Bool, true, false, List, [], ◌∷◌, ◌++◌, Option, Some, None, refl, ap, sym, subst, ◌∙◌, ⊎_elim}
+use Rattle.std.specs.Prelude.{fold, ◌==◌, ◌||◌, if◌then◌else◌}
 use Rattle.std.proofs.lemmas.List.{append-nil, append_assoc}
-use Rattle.std.proofs.lemmas.List.Elements.{filter_map-append}
 use Rattle.std.proofs.lemmas.List.Sums.{fold-append}
 use Rattle.std.proofs.lemmas.Bool.{eqb-true}
 use Rattle.dali_lists.proofs.Tests.{not_both_ways}
@@ -12,16 +11,17 @@ use Rattle.dali_record.specs.declared.records.Record.{Record}
 use Rattle.dali_record.specs.declared.records.Record.TheVariants.{Begin, Forward, Back, Solo, Done, Commit, Ended, Restarted}
 use Rattle.dali_record.specs.declared.operations.Pending.{Pending}
 use Rattle.dali_record.specs.Legal.{concerns}
-use Rattle.dali_record.specs.Log.{undo_step, undos_of, undo_added, drop_last}
+use Rattle.dali_record.specs.Log.{undo_step, undo_added, drop_last}
 use Rattle.dali_att.specs.declared.state.State.{State}
 use Rattle.dali_runs.specs.State.{hold_of}
 use Rattle.dali_runs.specs.Regions.{is_alive}
-use Rattle.dali_transcripts.specs.World.{Deed, Logs, DiesOn, GivesBack, record_of, logged_by}
+use Rattle.dali_transcripts.specs.World.{Deed, Logs, DiesOn, GivesBack, logged_by}
 use Rattle.dali_transcripts.specs.Rounds.{is_on}
 use Rattle.dali_notes.specs.History.{In, signs, IsSeen}
-use Rattle.dali_concurrent.specs.Entries.{Entry, Did, Latched, Freed, Entries, At, client_note, notes_of, deed_in, deeds_of, live_by, live_step, actor_by}
-use Rattle.dali_concurrent.specs.Rules.{Outset, before, count_of, log_by, state_by, dead_in, dead_deed, dead_step, dead_by, acting_for, is_looked, LookFits, Fits, AllFit}
-use Rattle.dali_concurrent.specs.Amid.{OwnHoldIsSeen, NoneLiveIsSeen, IsUnlooked, OwnHoldStays, is_apart, OthersLog, DeadIsSeen, FreedStaysFree}
+use Rattle.dali_concurrent.specs.Entries.{Entry, Did, Latched, Updated, Freed, Entries, At, client_note, notes_of, deeds_of, live_by, live_step, actor_by}
+use Rattle.dali_concurrent.specs.Rules.{Outset, count_of, state_by, dead_in, dead_deed, dead_step, dead_by, acting_for, HoldFits, Fits, AllFit}
+use Rattle.dali_concurrent.specs.Kept.{wants}
+use Rattle.dali_concurrent.specs.Amid.{OwnHoldIsSeen, NoneLiveIsSeen, OwnHoldStays, DeadIsSeen, FreedStaysFree}
 use Rattle.dali_concurrent.proofs.Entries.{Quiet, neither, not_signed, same_client, idle_of, not_its}
 use Rattle.dali_concurrent.proofs.Fitting.{good_front, fits_next, quiet_rest}
 use Rattle.dali_concurrent.proofs.Holds.{hold_is_of_actor, actor_stays}
@@ -71,89 +71,81 @@ live_or_dead o r w (p ∷ R) l d apart h = live_or_dead o r w R (live_step r l p
     one p v e = apart v e
 
 module _ (o : Outset) (r t c : ℕ) where
-  -- one entry of others leaves it, but where it is such a deed
-  stays_by : (P : Entries) (p : List ℕ × Entry) → Fits o P p → signs (client_note (count_of o) c) (notes_of (count_of o) p.1) ≡ false → live_by r P ≡ Some (t, c) → dead_by o r P ≡ None
-      → (live_step r (live_by r P) p ≡ Some (t, c)) ⊎ IsUnlooked r (p ∷ [])
-  stays_by P (k, Did x e) f quiet live none = by_on (is_on r x) refl
+  -- no entry of others wants it
+  pub unwanted : (P : Entries) (p : List ℕ × Entry) → Fits o P p → signs (client_note (count_of o) c) (notes_of (count_of o) p.1) ≡ false → live_by r P ≡ Some (t, c) → dead_by o r P ≡ None
+      → wants r p.1 ≡ false
+  unwanted P p f quiet live none = by_test (wants r p.1) refl
     where
-      apart : (e == c) ≡ false
-      apart = same_client (count_of o) e c (neither _ _ quiet).0
-
-      by_look : (b : Bool) → is_looked r x ≡ b → is_on r x ≡ true → ((if is_on r x then None else live_by r P) ≡ Some (t, c)) ⊎ IsUnlooked r ((k, Did x e) ∷ [])
-      by_look true is on =
-          let look : LookFits o P e r = f.fits.looked r is in
-          let same : (look.txn, e) ≡ (t, c) = some_same (sym look.live ∙ live) in
+      own : (e u q : ℕ) → (e == c) ≡ false → (q == r) ≡ true → live_by q P ≡ Some (u, e) → ⊥
+      own e u q apart on held =
+          let same : (u, e) ≡ (t, c) = some_same (sym (subst (λ z. live_by z P ≡ Some (u, e)) (eqb-true q r on) held) ∙ live) in
           not_its e c apart (ap (λ (z : ℕ × ℕ). Some z.1) same)
-      by_look false is on = inr (record { place = 0; notes = k; deed = x; client = e; there = refl; on = on; unlooked = is })
 
-      by_on : (b : Bool) → is_on r x ≡ b → ((if is_on r x then None else live_by r P) ≡ Some (t, c)) ⊎ IsUnlooked r ((k, Did x e) ∷ [])
-      by_on true on = by_look (is_looked r x) refl on
-      by_on false on = inl (ap (λ b. if b then None else live_by r P) on ∙ live)
-  stays_by P (k, Latched q u e) f quiet live none = inl (by_test (q == r) refl)
-    where
-      by_test : (b : Bool) → (q == r) ≡ b → (if b then Some (u, e) else live_by r P) ≡ Some (t, c)
-      by_test true is =
-          let empty : ◌≡◌ {A = Option (ℕ × ℕ)} None (Some (t, c)) = sym (subst (λ z. live_by z P ≡ None) (eqb-true q r is) f.fits.free.0) ∙ live in
+      no_dead : (u q : ℕ) → (q == r) ≡ true → dead_by o q P ≡ Some u → ⊥
+      no_dead u q on dead =
+          let empty : ◌≡◌ {A = Option ℕ} None (Some u) = sym none ∙ subst (λ z. dead_by o z P ≡ Some u) (eqb-true q r on) dead in
           absurd (cc)
-      by_test false is = live
-  stays_by P (k, Freed q e) f quiet live none = inl (by_test (q == r) refl)
-    where
-      apart : (e == c) ≡ false
-      apart = same_client (count_of o) e c (neither _ _ quiet).0
 
-      held : (u : ℕ) → (live_by r P ≡ Some (u, e)) ⊎ (dead_by o r P ≡ Some u) → ⊥
-      held u (inl h) = let same : (u, e) ≡ (t, c) = some_same (sym h ∙ live) in not_its e c apart (ap (λ (z : ℕ × ℕ). Some z.1) same)
-      held u (inr h) = let empty : ◌≡◌ {A = Option ℕ} None (Some u) = sym none ∙ h in absurd (cc)
+      by_deed : (x : Deed) (e : ℕ) → HoldFits o P x e → (e == c) ≡ false → is_on r x ≡ true → ⊥
+      by_deed (Logs (Forward u b)) e h apart on = own e u b.region apart on h
+      by_deed (Logs (Back u b)) e h apart on = own e u b.region apart on h
+      by_deed (Logs (Solo n u b)) e h apart on = own e u b.region apart on h
+      by_deed (DiesOn u q) e h apart on = own e u q apart on h
+      by_deed (GivesBack u (Some q)) e h apart on = no_dead u q on h
+      by_deed x e h apart on = absurd (cc)
 
-      by_test : (b : Bool) → (q == r) ≡ b → (if b then None else live_by r P) ≡ Some (t, c)
-      by_test true is = absurd (held f.fits.txn (subst (λ z. (live_by z P ≡ Some (f.fits.txn, e)) ⊎ (dead_by o z P ≡ Some f.fits.txn)) (eqb-true q r is) f.fits.held))
-      by_test false is = live
-  stays_by P p f quiet live none = inl live
+      by_entry : (p : List ℕ × Entry) → Fits o P p → signs (client_note (count_of o) c) (notes_of (count_of o) p.1) ≡ false → wants r p.1 ≡ true → ⊥
+      by_entry (k, Did x e) f quiet on = by_deed x e f.fits.held (same_client (count_of o) e c (neither _ _ quiet).0) on
+      by_entry (k, Latched q u e) f quiet on =
+          let empty : ◌≡◌ {A = Option (ℕ × ℕ)} None (Some (t, c)) = sym (subst (λ z. live_by z P ≡ None) (eqb-true q r on) f.fits.free.0) ∙ live in
+          absurd (cc)
+      by_entry (k, Updated q e) f quiet on = own e f.fits.0 q (same_client (count_of o) e c (neither _ _ quiet).0) on f.fits.1
+      by_entry (k, Freed q e) f quiet on =
+          ⊎_elim (λ held. own e f.fits.txn q (same_client (count_of o) e c (neither _ _ quiet).0) on held) (λ dead. no_dead f.fits.txn q on dead) f.fits.held
+      by_entry p f quiet on = absurd (cc)
 
-  further : (p : List ℕ × Entry) (R : Entries) → IsUnlooked r R → IsUnlooked r (p ∷ R)
-  further p R u = record { place = suc u.place; notes = u.notes; deed = u.deed; client = u.client; there = u.there; on = u.on; unlooked = u.unlooked }
+      by_test : (b : Bool) → wants r p.1 ≡ b → b ≡ false
+      by_test false is = refl
+      by_test true is = absurd (by_entry p f quiet is)
 
-  here : (p : List ℕ × Entry) (R : Entries) → IsUnlooked r (p ∷ []) → IsUnlooked r (p ∷ R)
-  here p R u = at u.place u.there
-    where
-      at : (i : ℕ) → At (p ∷ []) i (u.notes, Did u.deed u.client) → IsUnlooked r (p ∷ R)
-      at zero e = record { place = 0; notes = u.notes; deed = u.deed; client = u.client; there = e; on = u.on; unlooked = u.unlooked }
-      at (suc i) e = absurd (cc)
+  stays_by : (p : List ℕ × Entry) (l : Option (ℕ × ℕ)) → wants r p.1 ≡ false → live_step r l p ≡ l
+  stays_by (k, Did x e) l none = ap (λ b. if b then None else l) none
+  stays_by (k, Latched q u e) l none = ap (λ b. if b then Some (u, e) else l) none
+  stays_by (k, Freed q e) l none = ap (λ b. if b then None else l) none
+  stays_by p l none = refl
 
-  hold_along : (R A : Entries) → AllFit o (A ++ R) → Quiet (count_of o) (client_note (count_of o) c) R → live_by r A ≡ Some (t, c) → (live_by r (A ++ R) ≡ Some (t, c)) ⊎ IsUnlooked r R
-  hold_along [] A good quiet live = inl (ap (live_by r) (append-nil A) ∙ live)
+  pub no_dead_there : (A : Entries) → live_by r A ≡ Some (t, c) → dead_by o r A ≡ None
+  no_dead_there A live = live_or_dead o r (t, c) A None (dead_in (hold_of o.old r)) (λ v e. absurd (cc)) live
+
+  pub hold_on : (A : Entries) (p : List ℕ × Entry) → Fits o A p → signs (client_note (count_of o) c) (notes_of (count_of o) p.1) ≡ false → live_by r A ≡ Some (t, c) → live_by r (A ++ p ∷ []) ≡ Some (t, c)
+  hold_on A p f quiet live = fold-append (live_step r) None A (p ∷ []) ∙ (stays_by p (live_by r A) (unwanted A p f quiet live (no_dead_there A live)) ∙ live)
+
+  hold_along : (R A : Entries) → AllFit o (A ++ R) → Quiet (count_of o) (client_note (count_of o) c) R → live_by r A ≡ Some (t, c) → live_by r (A ++ R) ≡ Some (t, c)
+  hold_along [] A good quiet live = ap (live_by r) (append-nil A) ∙ live
   hold_along (p ∷ R) A good quiet live =
-      one (λ h. hold_along R (A ++ p ∷ []) (subst (AllFit o) moved good) (λ i q e. quiet (suc i) q e) h)
-      (stays_by A p (fits_next o A p R good) (quiet zero p refl) live (live_or_dead o r (t, c) A None (dead_in (hold_of o.old r)) (λ v e. absurd (cc)) live))
-    where
-      moved : A ++ p ∷ R ≡ (A ++ p ∷ []) ++ R
-      moved = sym (append_assoc A (p ∷ []) R)
-
-      rest : (live_by r ((A ++ p ∷ []) ++ R) ≡ Some (t, c)) ⊎ IsUnlooked r R → (live_by r (A ++ p ∷ R) ≡ Some (t, c)) ⊎ IsUnlooked r (p ∷ R)
-      rest (inl h) = inl (ap (live_by r) moved ∙ h)
-      rest (inr u) = inr (further p R u)
-
-      one : (live_by r (A ++ p ∷ []) ≡ Some (t, c) → (live_by r ((A ++ p ∷ []) ++ R) ≡ Some (t, c)) ⊎ IsUnlooked r R) → (live_step r (live_by r A) p ≡ Some (t, c)) ⊎ IsUnlooked r (p ∷ []) → (live_by r (A ++ p ∷ R) ≡ Some (t, c)) ⊎ IsUnlooked r (p ∷ R)
-      one more (inl h) = rest (more (fold-append (live_step r) None A (p ∷ []) ∙ h))
-      one more (inr u) = inr (here p R u)
+      let moved : A ++ p ∷ R ≡ (A ++ p ∷ []) ++ R = sym (append_assoc A (p ∷ []) R) in
+      ap (live_by r) moved ∙ hold_along R (A ++ p ∷ []) (subst (AllFit o) moved good) (λ i q e. quiet (suc i) q e) (hold_on A p (fits_next o A p R good) (quiet zero p refl) live)
 
 pub own_hold_stays : OwnHoldStays
-own_hold_stays o r t c seen new good is live = whole (hold_along o r t c is.rest seen (subst (AllFit o) is.all good) (quiet_rest o new (client_note (count_of o) c) seen good is) live)
-  where
-    whole : (live_by r (seen ++ is.rest) ≡ Some (t, c)) ⊎ IsUnlooked r is.rest → (live_by r new ≡ Some (t, c)) ⊎ IsUnlooked r is.rest
-    whole (inl h) = inl (ap (live_by r) is.all ∙ h)
-    whole (inr u) = inr u
+own_hold_stays o r t c seen new good is live =
+    ap (live_by r) is.all ∙ hold_along o r t c is.rest seen (subst (AllFit o) is.all good) (quiet_rest o new (client_note (count_of o) c) seen good is) live
 
 -- ---- a transaction that it acts for, along entries of others
+-- the record concerns t, though it is done for another one: a solo of this number, or a restart
+abbrev pub is_apart : ℕ → Record → Bool
+is_apart t (Solo u p b) = u == t
+is_apart t (Restarted rs ds) = true
+is_apart t x = false
+
 module _ (o : Outset) (t c : ℕ) where
   pub record Own (A : Entries) : Type 0 where
     pub acts : actor_by t A ≡ Some c
     pub alive : is_alive (state_by o A t) ≡ true
 
-  abbrev note : ℕ
+  abbrev pub note : ℕ
   note = client_note (count_of o) c
 
-  abbrev Along : Entries → Entries → Type 0
+  abbrev pub Along : Entries → Entries → Type 0
   Along A [] = Unit {0}
   Along A (p ∷ R) = (Own A × Fits o A p × (signs note (notes_of (count_of o) p.1) ≡ false)) × Along (A ++ p ∷ []) R
 
@@ -161,21 +153,23 @@ module _ (o : Outset) (t c : ℕ) where
   only_it p x none (zero, e) = subst (λ (z : List ℕ × Entry). signs note z.0 ≡ false) (some_same e) none
   only_it p x none (suc i, e) = absurd (cc)
 
+  pub own_on : (A : Entries) (p : List ℕ × Entry) → AllFit o (A ++ p ∷ []) → signs note p.0 ≡ false → Own A → Own (A ++ p ∷ [])
+  own_on A p good unsigned own =
+      let w = actor_stays o t c A (A ++ p ∷ []) good (record { rest = p ∷ []; all = refl; none = λ x w. only_it p x unsigned w }) own.acts own.alive in
+      record { acts = w.0; alive = ap is_alive w.1 ∙ own.alive }
+
   along : (R A : Entries) → AllFit o (A ++ R) → ((x : List ℕ × Entry) → In R x → signs note x.0 ≡ false) → Own A → Along A R
   along [] A good none own = record {}
   along (p ∷ R) A good none own =
-      let moved : A ++ p ∷ R ≡ (A ++ p ∷ []) ++ R = sym (append_assoc A (p ∷ []) R) in
-      let good_on : AllFit o ((A ++ p ∷ []) ++ R) = subst (AllFit o) moved good in
+      let good_on : AllFit o ((A ++ p ∷ []) ++ R) = subst (AllFit o) (sym (append_assoc A (p ∷ []) R)) good in
       let f : Fits o A p = fits_next o A p R good in
-      let unsigned : signs note p.0 ≡ false = none p (zero, refl) in
-      let on : IsSeen (A ++ p ∷ []) note A = record { rest = p ∷ []; all = refl; none = λ x w. only_it p x unsigned w } in
-      let w = actor_stays o t c A (A ++ p ∷ []) (good_front o (A ++ p ∷ []) R good_on) on own.acts own.alive in (
+      let unsigned : signs note p.0 ≡ false = none p (zero, refl) in (
         (own, f, not_signed note (notes_of (count_of o) p.1) p.0 (f.by note) unsigned),
-        along R (A ++ p ∷ []) good_on (λ x v. none x (suc v.0, v.1)) (record { acts = w.0; alive = ap is_alive w.1 ∙ own.alive }),
+        along R (A ++ p ∷ []) good_on (λ x v. none x (suc v.0, v.1)) (own_on A p (good_front o (A ++ p ∷ []) R good_on) unsigned own),
       )
 
   -- a deed of others isn't done for it, nor begins it
-  not_for : (A : Entries) (k : List ℕ) (x : Deed) (e u : ℕ) → Own A → Fits o A (k, Did x e) → (e == c) ≡ false → acting_for x ≡ Some u → (u == t) ≡ false
+  pub not_for : (A : Entries) (k : List ℕ) (x : Deed) (e u : ℕ) → Own A → Fits o A (k, Did x e) → (e == c) ≡ false → acting_for x ≡ Some u → (u == t) ≡ false
   not_for A k x e u own f apart for_it = by_test (u == t) refl
     where
       by_test : (b : Bool) → (u == t) ≡ b → b ≡ false
@@ -194,7 +188,7 @@ module _ (o : Outset) (t c : ℕ) where
       by_test true is = absurd (gone (state_by o A t) own.alive (subst (λ z. state_by o A z ≡ None) (eqb-true u t is) f.fits.txn.0))
 
   -- ---- what others log
-  other_record : (A : Entries) (k : List ℕ) (x : Record) (e : ℕ) → Own A → Fits o A (k, Did (Logs x) e) → (e == c) ≡ false → is_apart t x ≡ false → concerns t x ≡ false
+  pub other_record : (A : Entries) (k : List ℕ) (x : Record) (e : ℕ) → Own A → Fits o A (k, Did (Logs x) e) → (e == c) ≡ false → is_apart t x ≡ false → concerns t x ≡ false
   other_record A k (Begin u) e own f apart h = not_begun A k e u own f
   other_record A k (Forward u b) e own f apart h = not_for A k (Logs (Forward u b)) e u own f apart refl
   other_record A k (Back u b) e own f apart h = not_for A k (Logs (Back u b)) e u own f apart refl
@@ -205,21 +199,12 @@ module _ (o : Outset) (t c : ℕ) where
   other_record A k (Restarted rs ds) e own f apart h = absurd (cc)
   other_record A k x e own f apart h = refl
 
-  records_along : (R A : Entries) → Along A R → (i : ℕ) (x : Record) → slice_get (logged_by (deeds_of R)) i ≡ Some x → is_apart t x ≡ false → concerns t x ≡ false
-  records_along [] A w i x e h = absurd (cc)
-  records_along ((k, Did (Logs y) d) ∷ R) A w zero x e h =
-      let same : y ≡ x = some_same e in
-      subst (λ z. is_apart t z ≡ false → concerns t z ≡ false) same (λ g. other_record A k y d w.0.0 w.0.1 (same_client (count_of o) d c (neither _ _ w.0.2).0) g) h
-  records_along ((k, Did (Logs y) d) ∷ R) A w (suc i) x e h = records_along R (A ++ (k, Did (Logs y) d) ∷ []) w.1 i x e h
-  records_along ((k, Did z d) ∷ R) A w i x e h = records_along R (A ++ (k, Did z d) ∷ []) w.1 i x e h
-  records_along (p ∷ R) A w i x e h = records_along R (A ++ p ∷ []) w.1 i x e h
-
   undo_left : (A : Entries) (k : List ℕ) (x : Record) (e : ℕ) (us : List Pending) → Own A → Fits o A (k, Did (Logs x) e) → (e == c) ≡ false → undo_step t us x ≡ us
   undo_left A k (Forward u b) e us own f apart = ap (λ z. if z then us ++ undo_added b b.undo else us) (not_for A k (Logs (Forward u b)) e u own f apart refl)
   undo_left A k (Back u b) e us own f apart = ap (λ z. if z then drop_last us else us) (not_for A k (Logs (Back u b)) e u own f apart refl)
   undo_left A k x e us own f apart = refl
 
-  undos_along : (R A : Entries) (us : List Pending) → Along A R → fold (undo_step t) us (logged_by (deeds_of R)) ≡ us
+  pub undos_along : (R A : Entries) (us : List Pending) → Along A R → fold (undo_step t) us (logged_by (deeds_of R)) ≡ us
   undos_along [] A us w = refl
   undos_along ((k, Did (Logs y) d) ∷ R) A us w =
       ap (λ z. fold (undo_step t) z (logged_by (deeds_of R))) (undo_left A k y d us w.0.0 w.0.1 (same_client (count_of o) d c (neither _ _ w.0.2).0))
@@ -251,25 +236,8 @@ module _ (o : Outset) (t c : ℕ) where
       one (k, Freed q e) own f quiet g = by_test (q == r) g
       one p own f quiet g = g
 
-along_rest : (o : Outset) (t c : ℕ) (seen new : Entries) → AllFit o new → (is : IsSeen new (client_note (count_of o) c) seen) → actor_by t seen ≡ Some c → is_alive (state_by o seen t) ≡ true → Along o t c seen is.rest
+pub along_rest : (o : Outset) (t c : ℕ) (seen new : Entries) → AllFit o new → (is : IsSeen new (client_note (count_of o) c) seen) → actor_by t seen ≡ Some c → is_alive (state_by o seen t) ≡ true → Along o t c seen is.rest
 along_rest o t c seen new good is acts alive = along o t c is.rest seen (subst (AllFit o) is.all good) is.none (record { acts = acts; alive = alive })
-
-pub others_log : OthersLog
-others_log o t c seen new good is acts alive = (more, logs, records_along o t c is.rest seen there, undos)
-  where
-    there : Along o t c seen is.rest
-    there = along_rest o t c seen new good is acts alive
-
-    more : List Record
-    more = logged_by (deeds_of is.rest)
-
-    logs : log_by o new ≡ log_by o seen ++ more
-    logs = ap (λ l. before o ++ logged_by l) (ap deeds_of is.all ∙ filter_map-append deed_in seen is.rest)
-        ∙ (ap (λ l. before o ++ l) (filter_map-append record_of (deeds_of seen) (deeds_of is.rest))
-        ∙ sym (append_assoc (before o) (logged_by (deeds_of seen)) more))
-
-    undos : undos_of t (log_by o new) ≡ undos_of t (log_by o seen)
-    undos = ap (undos_of t) logs ∙ (fold-append (undo_step t) [] (log_by o seen) more ∙ undos_along o t c is.rest seen (undos_of t (log_by o seen)) there)
 
 pub dead_is_seen : DeadIsSeen
 dead_is_seen o r t c seen new good is acts alive h =

@@ -16,7 +16,7 @@ use Rattle.dali_store.specs.Store.{Files as Disk, file_of}
 use Rattle.dali_store.specs.declared.store.Store.{Ghosts}
 use Rattle.dali_log.specs.Batch.{Framed}
 use Rattle.dali_runs.specs.State.{CoreState}
-use Rattle.dali_runs.specs.Flushes.{frame_of, with_batch, with_vault, longer}
+use Rattle.dali_runs.specs.Flushes.{frame_of, with_batch, with_vault, longer, faulted}
 use Rattle.dali_runs.specs.Courses.{Step, AuditBegins, AuditEnds, Flushes, Faults, ReadFails, Stops}
 use Rattle.dali_runs.proofs.ImageSteps.{side_self}
 use Rattle.dali_crash.specs.Checkpoints.{Head, StoreStep, Does, Starts, Keeps, Copies, Skips, WritesHead, Syncs, Turns, CopyFails, HeadFails, SyncFails, TurnFails, Finishes, Point, IsPointStep, IsPointCourse, MayTurn, target, side_of, image_in, copies_after}
@@ -31,21 +31,18 @@ use Rattle.dali_core.specs.Steps.Called.{KeepsImage, IsUnderWayIn, IsWholeIn, Is
 use Rattle.dali_core.specs.Steps.Courses.{calls_none}
 use Rattle.dali_core.specs.Steps.Said.{HasFlushed, HasWritten, WriteHasFailed, HasSynced}
 use Rattle.dali_core.specs.Cores.{HoldsPlaces}
-use Rattle.dali_core.proofs.Lengths.{places_stay}
 use Rattle.dali_core.proofs.StepsLemmas.Files.{named}
-use Rattle.dali_core.proofs.StepsLemmas.Steps.{quiet_goes, quiet_keeps, skip_goes, flush_goes, header_goes, table_goes, sync_goes, turn_goes, head_faults, sync_faults, turn_faults, places_stand}
+use Rattle.dali_core.proofs.StepsLemmas.Steps.{quiet_goes, quiet_keeps, skip_goes, flush_goes, flush_faults, header_goes, table_goes, sync_goes, turn_goes, head_faults, sync_faults, turn_faults, places_stand}
 use Rattle.dali_checkpoint.specs.CopiedOut.{is_silent as is_silent_there, IsAtBut, IsUnderWayBut, WaitsOn, WaitsForOne, WaitIsOver}
 use Rattle.dali_checkpoint.proofs.CopyingOut.{silent_is_calm, clash, wait_begins, silent_waits, copy_waits, write_ends, write_fails}
 use Rattle.dali_concurrent.specs.Entries.{Entry}
 use Rattle.dali_concurrent.specs.Rules.{Outset, log_by, count_of}
 use Rattle.dali_concurrent.specs.Told.{Effect, OnVault, History, plain, core_told}
 use Rattle.dali_concurrent.specs.Landing.{BeginsAt, Stands, Way}
-use Rattle.dali_concurrent.specs.Copying.{failed_with}
 use Rattle.dali_concurrent.specs.Kept.{are_core_steps}
 use Rattle.dali_concurrent.specs.Stages.{Image, Stage, Nowhere, Started, HasKept, Copying, Settled, image_after, is_of_image, stage_after, stage_line, stage_by, IsImage, IsStage}
-use Rattle.dali_concurrent.specs.Calls.{is_still, AreStill, is_calm, AreCalm, next_image, IsImageIn, VaultAt, IsReady, IsImageBut, FilesHold, HeldWhile, HeldFaults, AtMeets, FlushStays, HeaderHolds, TableHolds, SyncHolds, TurnHolds, HeadFaultHolds, SyncFaultHolds, TurnFaultHolds, RunBegins, RunMeets, RunCopies, RunEnds, RunFaultHolds}
+use Rattle.dali_concurrent.specs.Calls.{is_still, AreStill, is_calm, AreCalm, next_image, IsImageIn, VaultAt, IsReady, IsImageBut, FilesHold, AtMeets, FlushHolds, FaultHolds, HeaderHolds, TableHolds, SyncHolds, TurnHolds, HeadFaultHolds, SyncFaultHolds, TurnFaultHolds, RunBegins, RunMeets, RunCopies, RunEnds, RunFaultHolds}
 use Rattle.dali_concurrent.proofs.Landing.{front_stands}
-use Rattle.dali_concurrent.proofs.Told.{told_push}
 use Rattle.dali_concurrent.proofs.Stages.{stage_push, stage_stands, stage_turns, sizes_are, sized}
 
 -- ---- a step that calls no store
@@ -104,6 +101,15 @@ flush_is p q h =
     h.2 ∙ (ap (λ L. record p { log = L; core = q.core; audits = q.audits; copies = copies_after p.core Flushes p.copies }) h.1.0.1.0
     ∙ (ap (λ d. record p { core = d; audits = q.audits; copies = copies_after p.core Flushes p.copies }) h.1.0.1.1
     ∙ ap (λ A. record p { core = with_vault p.core (longer p.core.vault (frame_of p.log p.core)); audits = A; copies = copies_after p.core Flushes p.copies }) h.1.1))
+
+abbrev failed_to : Point → ℕ → Point
+failed_to p n = record p { core = with_vault p.core (faulted p.core.vault n); copies = copies_after p.core (Faults n) p.copies }
+
+fault_is : (p : Point) (n : ℕ) (q : Point) → IsPointStep p (Does (Faults n)) q → q ≡ failed_to p n
+fault_is p n q h =
+    h.2 ∙ (ap (λ L. record p { log = L; core = q.core; audits = q.audits; copies = copies_after p.core (Faults n) p.copies }) h.1.0.2.0
+    ∙ (ap (λ d. record p { core = d; audits = q.audits; copies = copies_after p.core (Faults n) p.copies }) h.1.0.2.1
+    ∙ ap (λ A. record p { core = with_vault p.core (faulted p.core.vault n); audits = A; copies = copies_after p.core (Faults n) p.copies }) h.1.1))
 
 module _ (s : Start) (p : Point) (o : Outset) (T : History) (begins : BeginsAt (bases_of s) p o) where
   behind_one : (k : List ℕ) (e : Entry) (f : Effect) (x : StoreStep) (P : Point → Type 0) → ((q r : Point) → Stands (bases_of s) p o T q → IsPointStep q x r → P r)
@@ -249,19 +255,6 @@ module _ {V : Type 0} (means : Ghosts V) where
       all_told (Some fs) each = λ side r g there clear. subst (λ l. place_of (r + 1) ≤ length l) (named side fs) (each side r g there clear)
       all_told None each = tt
 
-  pub held_while : HeldWhile means
-  held_while s B p o v T held runs = record { at = held.at; files = files_hold s B p o v T held runs }
-
-  pub held_faults : HeldFaults means
-  held_faults s B p o T k c n step x y v w begins held at longer = record {
-    at = at.at;
-    files = λ q stands.
-        let split = front_stands (bases_of s) p o T ((k, failed_with step x y n c) ∷ []) (T ++ (k, failed_with step x y n c) ∷ []) q begins refl stands in
-        let same : q.core.regions ≡ split.0.core.regions =
-        ap (λ (d : CoreState). d.regions) (stands.comes.core ∙ told_push o T (k, failed_with step x y n c)) ∙ ap (λ (d : CoreState). d.regions) (sym split.1.comes.core) in
-        subst (λ gs. IfSome (means.told w.store) (HoldsPlaces gs)) (sym same) (places_stay (means.told v.store) (means.told w.store) split.0.core.regions longer (held.files split.0 split.1));
-  }
-
   -- ---- a flush
   flush_runs : (v w : Vaulted V) (f : Framed) → HasFlushed means v f w → v.stopped ≡ false
   flush_runs v w f said = sym (ap (λ (z : Vaulted V). z.stopped) said.vault) ∙ said.ok.runs
@@ -273,8 +266,8 @@ module _ {V : Type 0} (means : Ghosts V) where
   flush_stage n L c (Copying h g k) = refl
   flush_stage n L c (Settled h i) = refl
 
-  pub flush_stays : FlushStays means
-  flush_stays s B p o T k e after v w f begins held frame said = record { at = λ q at. (there q at).0; image = λ runs q at. (there q at).1 }
+  pub flush_holds : FlushHolds means
+  flush_holds s B p o T k e after v w f begins held frame said = record { at = λ q at. (there q at).0; image = λ runs q at. (there q at).1 }
     where
       D : List (List Record)
       D = with_batch B (frame_of (log_by o (plain T)) (core_told o T))
@@ -418,6 +411,14 @@ module _ {V : Type 0} (means : Ghosts V) where
 
   no_more : (w : Vaulted V) (P : Type 0) → w.stopped ≡ true → w.stopped ≡ false → P
   no_more w P a b = absurd (clash (sym b ∙ a))
+
+  pub fault_holds : FaultHolds means
+  fault_holds s B p o T k c x y v w f begins held frame said = record {
+    at = behind_two s p o T begins k _ _ (Does (Faults (means.faults w.store))) (Does Stops) (λ q. IsAt means s B q w) (λ q r z at one two.
+        let goes = flush_faults means s B q v w f (held.at q at) (frame q at) said in
+        stops_on s B r z w two (subst (λ i. IsAt means s B i w) (fault_is q (means.faults w.store) goes.to goes.step ∙ sym (fault_is q (means.faults w.store) r one)) goes.is));
+    image = λ runs q at. no_more w _ (ap (λ (i : Vaulted V). i.stopped) said.vault) runs;
+  }
 
   pub head_fault_holds : HeadFaultHolds means
   head_fault_holds s B p o T k c place n x y h v w begins held begun said = record {

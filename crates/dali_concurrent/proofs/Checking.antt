@@ -8,11 +8,9 @@ use Rattle.dali_lists.proofs.Lists.{get_behind}
 use Rattle.dali_lists.proofs.Numbers.{eqb-self}
 use Rattle.dali_lists.proofs.Options.{some_same}
 use Rattle.dali_lists.proofs.Tests.{not_both_ways}
-use Rattle.dali_store.specs.declared.store.Store.{Ghosts}
 use Rattle.dali_runs.specs.Run.{Bases}
 use Rattle.dali_runs.specs.Courses.{Flushes, Faults, ReadFails}
 use Rattle.dali_crash.specs.Checkpoints.{StoreStep, Does, Starts, Keeps, Copies, Skips, WritesHead, Syncs, Turns, CopyFails, HeadFails, SyncFails, TurnFails, Finishes, Point}
-use Rattle.dali_crash.specs.Traces.{bases_of}
 use Rattle.dali_transcripts.specs.World.{Deed, Logs, Strays, DiesOn, Claims, GivesBack, GetsLock, Yields, FindsDead, StartsCheckpoint, MovesAnchor, EndsCheckpoint, Meets, Happening, span_step, under_way}
 use Rattle.dali_transcripts.specs.Rounds.{AreSpans}
 use Rattle.dali_notes.specs.History.{signs}
@@ -21,11 +19,10 @@ use Rattle.dali_concurrent.specs.Rules.{Outset, count_of}
 use Rattle.dali_concurrent.specs.Told.{Line, History, plain, plain_one}
 use Rattle.dali_concurrent.specs.Kept.{are_core_steps, is_silent, Follows, AllFollow}
 use Rattle.dali_concurrent.specs.Stages.{stage_by, AreCoreSteps, IsBehind}
-use Rattle.dali_concurrent.specs.Calls.{is_still, is_calm, AreStill, VaultAt}
-use Rattle.dali_concurrent.specs.Checking.{StageSees, CalmSees, AtSees}
+use Rattle.dali_concurrent.specs.Calls.{is_still, is_calm, AreStill}
+use Rattle.dali_concurrent.specs.Checking.{StageSees, CalmSees}
 use Rattle.dali_concurrent.proofs.Lists.{take_length}
 use Rattle.dali_concurrent.proofs.Stages.{stage_stays}
-use Rattle.dali_concurrent.proofs.Calls.{at_meets}
 
 -- ---- spans, one list behind the other
 spans_behind : (o : Option ℕ) (xs ys : List Happening) → AreSpans o (xs ++ ys) → AreSpans (fold span_step o xs) ys
@@ -135,7 +132,7 @@ module _ (bases : Bases) (p : Point) (o : Outset) where
   still_silent (SyncFails n) h = absurd (cc)
   still_silent (TurnFails n) h = absurd (cc)
 
-  still_rest : (R S : History) → AllFollow bases p o (S ++ R) → ((i : ℕ) (e : Line) → slice_get R i ≡ Some e → signs vault_note e.0 ≡ false) → AreStill R
+  pub still_rest : (R S : History) → AllFollow bases p o (S ++ R) → ((i : ℕ) (e : Line) → slice_get R i ≡ Some e → signs vault_note e.0 ≡ false) → AreStill R
   still_rest [] S all none i e at = absurd (cc)
   still_rest (e ∷ R) S all none zero x at = λ j y there.
       still_silent y ((follows_at S e R all).silent (none zero e refl) j y (ap (λ (z : Line). slice_get z.1.2 j) (some_same at) ∙ there))
@@ -174,8 +171,3 @@ calm_step (Finishes ∷ xs) j x core at still = absurd (cc)
 pub calm_sees : CalmSees
 calm_sees bases p o seen new all is core i e at j x there =
     calm_step e.1.2 j x (core i e at) there (still_rest bases p o is.rest seen (subst (AllFollow bases p o) is.all all) (λ k y f. is.none y (k, f)) i e at j x there)
-
-module _ {V : Type 0} (means : Ghosts V) where
-  pub at_sees : AtSees means
-  at_sees s B p o seen new v begins is all held = subst (λ T. VaultAt means s B p o v T) (sym is.all)
-      (at_meets means s B p o seen is.rest v begins (still_rest (bases_of s) p o is.rest seen (subst (AllFollow (bases_of s) p o) is.all all) (λ i e f. is.none e (i, f))) held)

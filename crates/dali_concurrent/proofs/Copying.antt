@@ -172,7 +172,8 @@ syncs_land bases p o T k e v tie is runs begun = tie_one bases p o T k e Leaves 
 -- ---- the anchor
 turn_ends : (o : Outset) (T : History) (q : Point) (v : VaultState) → q.core ≡ core_told o T → v ≡ q.core.vault → with_current q.core ≡ effect_on (core_told o T) (OnVault (record v { current = v.current + 1 }))
 turn_ends o T q v core is =
-    ap (λ d. with_vault d (record q.core.vault { current = q.core.vault.current + 1 })) core ∙ ap (λ (u : VaultState). with_vault (core_told o T) (record u { current = u.current + 1 })) (sym is)
+    ap (λ d. with_vault d (record q.core.vault { current = q.core.vault.current + 1 })) core ∙ (ap (λ (u : VaultState). with_vault (core_told o T) (record u { current = u.current + 1 })) (sym is)
+    ∙ ap (λ n. with_vault (core_told o T) (record v { current = v.current + 1; faults_then = n })) (ap (λ (u : VaultState). u.faults_then) is ∙ ap (λ (d : CoreState). d.vault.faults_then) core))
 
 pub turns_land : TurnsLand
 turns_land bases p o T k c h b end v is runs may = one_lands bases p o T k (Did (MovesAnchor (v.current + 1)) c) (OnVault (record v { current = v.current + 1 })) Turns (λ q at.

@@ -9,11 +9,16 @@ pub mod Copying
 pub mod Stages
 pub mod Opened
 pub mod Kept
+pub mod Steps
 pub mod Holds
 pub mod Locking
 pub mod Cases
 pub mod Clients
 pub mod Amid
+pub mod Beside
+pub mod Own
+pub mod Refused
+pub mod Held
 pub mod Closed
 pub mod Rests
 pub mod Round
@@ -29,7 +34,8 @@ pub mod Passed
 pub mod Audits
 pub mod Auditing
 pub mod Leads
-pub mod Same
+pub mod Untold
 pub mod WrongRuns
 pub mod Wrong
 pub mod Worked
+pub mod WorkedCheckpoint

@@ -38,6 +38,7 @@ use Rattle.dali_concurrent.proofs.Entries.{neither, deeds_push}
 use Rattle.dali_concurrent.proofs.Told.{plain-append}
 use Rattle.dali_concurrent.proofs.Landing.{onward, told_is_whole, way_grows}
 use Rattle.dali_concurrent.proofs.Sorts.{front, runs_then, state_then}
+use Rattle.dali_concurrent.proofs.Steps.{no_grant}
 use Rattle.dali_concurrent.proofs.Kept.{stands_of}
 use Rattle.dali_concurrent.proofs.Holds.{runs_there}
 
@@ -139,13 +140,13 @@ module _ (bases : Bases) (p : Point) (o : Outset) (begins : BeginsAt bases p o) 
         ∙ (ap (λ q. if (u == t) && (j == k) then Some (stronger_mode q n) else q) here ∙ sym (pushed (Did (GetsLock u j n) c) xs)))))
       where
         single : IsPointCourse m (Does (Locks u j n) ∷ []) to
-        single = subst (λ ys. IsPointCourse m ys to) follows.locks course
+        single = subst (λ ys. IsPointCourse m ys to) follows.steps course
     one (Did (Logs (Ended u)) c) xs follows course behind = by_test (u == t) refl
       where
         by_test : (b : Bool) → (u == t) ≡ b → Told (A ++ (ks, (Did (Logs (Ended u)) c, f, xs)) ∷ [])
         by_test true is = gone c xs u behind is ∙ sym (pushed (Did (Logs (Ended u)) c) xs ∙ ap (λ b. if b then None else lock_by o (plain A) t k) is)
-        by_test false is = quiet (Did (Logs (Ended u)) c) xs course behind follows.locks (ap (λ b. if b then None else lock_by o (plain A) t k) is)
-    one x xs follows course behind = quiet x xs course behind follows.locks refl
+        by_test false is = quiet (Did (Logs (Ended u)) c) xs course behind (no_grant (Did (Logs (Ended u)) c) xs refl follows.steps) (ap (λ b. if b then None else lock_by o (plain A) t k) is)
+    one x xs follows course behind = quiet x xs course behind (no_grant x xs refl follows.steps) refl
 
   step : (A : History) (e : Line) → AllFollow bases p o A → Follows bases p o A e → Told A → Told (A ++ e ∷ [])
   step A e all follows told =

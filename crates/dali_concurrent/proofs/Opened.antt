@@ -19,7 +19,7 @@ use Rattle.dali_concurrent.proofs.Entries.{deeds_push, IdleIn, other, not_its}
 
 module _ (o : Outset) where
   -- behind a deed it is open where it was, or where the deed began it
-  open_before : (P : Entries) (t : ℕ) (k : List ℕ) (x : Deed) (c : ℕ) (s : Option State) → s ≡ state_by o P t → Fits o P (k, Did x c) → is_open_in (state_step t s (x, c)) ≡ true → (is_open_in s ≡ true) ⊎ (x ≡ Logs (Begin t))
+  pub open_before : (P : Entries) (t : ℕ) (k : List ℕ) (x : Deed) (c : ℕ) (s : Option State) → s ≡ state_by o P t → Fits o P (k, Did x c) → is_open_in (state_step t s (x, c)) ≡ true → (is_open_in s ≡ true) ⊎ (x ≡ Logs (Begin t))
   open_before P t k (Logs (Begin u)) c s e f h = by_test (u == t) refl h
     where
       by_test : (b : Bool) → (u == t) ≡ b → is_open_in (if b then Some Live else s) ≡ true → (is_open_in s ≡ true) ⊎ (Logs (Begin u) ≡ Logs (Begin t))

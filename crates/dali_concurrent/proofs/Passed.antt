@@ -33,6 +33,7 @@ use Rattle.dali_concurrent.specs.Audits.{pass_told, passed_in, passes_by, Passes
 use Rattle.dali_concurrent.proofs.Lists.{take_length, get_sides, filter_map-none, each_front}
 use Rattle.dali_concurrent.proofs.Told.{lengths}
 use Rattle.dali_concurrent.proofs.Landing.{onward, start_stands}
+use Rattle.dali_concurrent.proofs.Steps.{no_pass}
 use Rattle.dali_concurrent.proofs.Kept.{fit_of}
 use Rattle.dali_concurrent.proofs.Entries.{neither}
 
@@ -283,7 +284,7 @@ module _ (bases : Bases) (p : Point) (o : Outset) (begins : BeginsAt bases p o) 
       e = (k, (Passed r a right, f, xs))
 
       course : IsPointCourse m (Does (Passes a r) ∷ []) to
-      course = subst (λ ys. IsPointCourse m ys to) follows.passes land.course
+      course = subst (λ ys. IsPointCourse m ys to) follows.steps land.course
 
       g : RegionState
       g = course.1.1.0.0
@@ -312,7 +313,7 @@ module _ (bases : Bases) (p : Point) (o : Outset) (begins : BeginsAt bases p o) 
 
   one_line : (S : History) (e : Line) (m to : Point) → AllFit o (plain S) → Follows bases p o S e → Stands bases p o S m → Landing o S e m to → Claim S m → Claim (S ++ e ∷ []) to
   one_line S (k, (Passed r a right, f, xs)) m to good follows at land claim = pass_line S k r a right f xs m to follows at land claim
-  one_line S (k, (x, f, xs)) m to good follows at land claim = quiet_line S (k, (x, f, xs)) m to good at land follows.passes refl claim
+  one_line S (k, (x, f, xs)) m to good follows at land claim = quiet_line S (k, (x, f, xs)) m to good at land (no_pass x xs refl follows.steps) refl claim
 
   lines : (R S : History) (m q : Point) → AllFollow bases p o (S ++ R) → Stands bases p o S m → Way o S m R q → Claim S m → Claim (S ++ R) q
   lines [] S m q all at way claim = subst (λ Z. Claim Z q) (sym (append-nil S)) (subst (Claim S) way claim)

@@ -33,7 +33,7 @@ use Rattle.dali_transcripts.specs.Telling.Laws.{AreOfCourse}
 use Rattle.dali_transcripts.specs.Telling.Tells.{after}
 use Rattle.dali_concurrent.specs.Entries.{Entry, Did, Flushed}
 use Rattle.dali_concurrent.specs.Rules.{Outset, log_by}
-use Rattle.dali_concurrent.specs.Told.{OnRegion, OnSystem, OnVault, OnBoth, OnStop, effect_on, History, plain, core_told, world_told, is_tie}
+use Rattle.dali_concurrent.specs.Told.{vault_on, OnRegion, OnSystem, OnVault, OnBoth, OnStop, effect_on, History, plain, core_told, world_told, is_tie}
 use Rattle.dali_concurrent.specs.Landing.{said_in, who_in, Halts, Stands}
 use Rattle.dali_concurrent.specs.Sorts.{is_of_system, SystemLands, block_in, HasBlock, BothLand, RegionLands, is_poke, after_all, steps_on, MayMake, RegionStepsLand, FlushLands, FrameStays, FaultLands, RecordIsRight, GrantIsRight, ClaimIsRight}
 use Rattle.dali_concurrent.proofs.Landing.{stop_stands, step_lands, course_lands}
@@ -203,13 +203,20 @@ longer_stops : (v : VaultState) (frame : List Record) → (longer v frame).stopp
 longer_stops v [] = refl
 longer_stops v (r ∷ rs) = refl
 
+vault_kept : (v : VaultState) (frame : List Record) → vault_on v (longer v frame) ≡ longer v frame
+vault_kept v [] = refl
+vault_kept v (r ∷ rs) = refl
+
+flush_leaves : (c : CoreState) (v : VaultState) (frame : List Record) → v ≡ c.vault → effect_on c (OnVault (longer v frame)) ≡ with_vault c (longer v frame)
+flush_leaves c v frame is = ap (λ u. with_vault c (vault_on u (longer v frame))) (sym is) ∙ ap (λ u. with_vault c u) (vault_kept v frame)
+
 pub flush_lands : FlushLands
 flush_lands bases p o T k v frame is runs taken = step_lands bases p o T k Flushed (OnVault (longer v frame)) Flushes (λ q at.
     let stays : (longer v frame).stopped ≡ (core_told o T).vault.stopped = longer_stops v frame ∙ ap (λ (u : VaultState). u.stopped) is in
     record {
       other = refl;
       log = log_by o (plain T);
-      step = (ap (λ (u : VaultState). u.stopped) (sym is) ∙ runs, (refl, ap (λ u. with_vault (core_told o T) (longer u frame)) is ∙ ap (λ f. with_vault (core_told o T) (longer (core_told o T).vault f)) taken));
+      step = (ap (λ (u : VaultState). u.stopped) (sym is) ∙ runs, (refl, flush_leaves (core_told o T) v frame is ∙ (ap (λ u. with_vault (core_told o T) (longer u frame)) is ∙ ap (λ f. with_vault (core_told o T) (longer (core_told o T).vault f)) taken)));
       audits = q.audits;
       passes = refl;
       are = refl;

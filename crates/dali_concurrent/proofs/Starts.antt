@@ -1,10 +1,9 @@
 -- What each value keeps where a round begins.
-use Rattle.std.proofs.Common.{[], IfSome, refl, subst, ap, sym, ◌∙◌}
+use Rattle.std.proofs.Common.{[], refl, subst, ap, sym, ◌∙◌}
 use Rattle.std.specs.Prelude.{slice_get}
 use Rattle.dali_runs.specs.State.{CoreState, hold_in}
 use Rattle.dali_store.specs.declared.store.Store.{Ghosts}
 use Rattle.dali_core.specs.Steps.At.{IsAt}
-use Rattle.dali_core.specs.Cores.{HoldsPlaces}
 use Rattle.dali_concurrent.specs.Rules.{dead_in}
 use Rattle.dali_concurrent.specs.Starts.{RoundStarts, VaultStarts}
 use Rattle.dali_concurrent.proofs.Holds.{none_live}
@@ -29,7 +28,4 @@ round_starts bases p o begins = record {
 }
 
 pub vault_starts : {V : Type 0} (means : Ghosts V) → VaultStarts means
-vault_starts means s B p o v at files = record {
-  at = λ q there. subst (λ r. IsAt means s B r v) there.way at;
-  files = λ q there. subst (λ r. IfSome (means.told v.store) (HoldsPlaces r.core.regions)) there.way files;
-}
+vault_starts means s B p o v at = record { at = λ q there. subst (λ r. IsAt means s B r v) there.way at; image = λ runs q there. tt }

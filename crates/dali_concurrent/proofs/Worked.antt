@@ -69,16 +69,16 @@ two_silent s r h k zero x e = subst (λ z. is_silent z ≡ true) (some_same e) h
 two_silent s r h k (suc i) x e = one_silent r k i x e
 
 -- ---- the deeds
-abbrev is_verdict : Deed → Bool
+abbrev pub is_verdict : Deed → Bool
 is_verdict (Logs (AuditClean b)) = true
 is_verdict (Logs (AuditFail b found)) = true
 is_verdict x = false
 
-no_verdict : (x : Deed) → is_verdict x ≡ false → (b : ℕ) (found : List ℕ) → x ≡ Logs (audit_record b found) → ⊥
+pub no_verdict : (x : Deed) → is_verdict x ≡ false → (b : ℕ) (found : List ℕ) → x ≡ Logs (audit_record b found) → ⊥
 no_verdict x h b [] e = not_both_ways (ap is_verdict e) h
 no_verdict x h b (r ∷ rs) e = not_both_ways (ap is_verdict e) h
 
-of_one : (P : Entries) (c t u : ℕ) → Some t ≡ Some u → actor_by t P ≡ Some c → actor_by u P ≡ Some c
+pub of_one : (P : Entries) (c t u : ℕ) → Some t ≡ Some u → actor_by t P ≡ Some c → actor_by u P ≡ Some c
 of_one P c t u e h = subst (λ v. actor_by v P ≡ Some c) (some_same e) h
 
 -- ---- where it begins
@@ -108,7 +108,7 @@ begins = record {
     none_held (suc zero) g at live = subst (λ z. IsLive z → ⊥) (some_same at) (λ no. absurd no) live
     none_held (suc (suc r)) g at live = absurd (cc)
 
-led : (T : History) → AllFollow worked_bases from outset T → IsLed worked_bases from outset T
+pub led : (T : History) → AllFollow worked_bases from outset T → IsLed worked_bases from outset T
 led T all = record { begins = begins; all = all }
 
 pub states : (T : History) (all : AllFollow worked_bases from outset T) (t : ℕ) → state_of (core_told outset T).system t ≡ state_by outset (plain T) t
@@ -136,12 +136,12 @@ holds_1 (suc (suc r)) g h at = absurd (omega (arith, h))
 
 pub all_1 : AllFollow worked_bases from outset t1
 all_1 = one_more worked_bases from outset t0 begins_1 all_0 (record {
-  fits = record { by = λ k h. h; fits = record { txn = (unbegun_0, free_0 all_0); acts = λ t e. absurd (cc); audited = λ b found e. absurd (no_verdict (Logs (Begin 1)) refl b found e); looked = λ r h. absurd (cc) } };
+  fits = record { by = λ k h. h; fits = record { txn = (unbegun_0, free_0 all_0); acts = λ t e. absurd (cc); audited = λ b found e. absurd (no_verdict (Logs (Begin 1)) refl b found e); looked = λ r h. absurd (cc); held = tt } };
   effect = refl;
   lands = begins_land worked_bases from outset t0 (5 ∷ 0 ∷ []) 1 y0 refl (record { runs = refl; room = omega arith });
   silent = λ none. one_silent (Does Begins) refl;
-  passes = refl;
-  locks = refl;
+  steps = refl;
+  writes = refl;
   holds = λ r g h sign at. holds_1 r g h at;
   checks = λ f. absurd (cc);
 })
@@ -165,12 +165,12 @@ holds_2 (suc (suc r)) g h at = absurd (omega (arith, h))
 
 pub all_2 : AllFollow worked_bases from outset t2
 all_2 = one_more worked_bases from outset t1 begins_2 all_1 (record {
-  fits = record { by = λ k h. h; fits = record { txn = (unbegun_1, free_1 all_1); acts = λ t e. absurd (cc); audited = λ b found e. absurd (no_verdict (Logs (Begin 2)) refl b found e); looked = λ r h. absurd (cc) } };
+  fits = record { by = λ k h. h; fits = record { txn = (unbegun_1, free_1 all_1); acts = λ t e. absurd (cc); audited = λ b found e. absurd (no_verdict (Logs (Begin 2)) refl b found e); looked = λ r h. absurd (cc); held = tt } };
   effect = refl;
   lands = begins_land worked_bases from outset t1 (6 ∷ 0 ∷ []) 2 y1 refl (record { runs = refl; room = omega arith });
   silent = λ none. one_silent (Does Begins) refl;
-  passes = refl;
-  locks = refl;
+  steps = refl;
+  writes = refl;
   holds = λ r g h sign at. holds_2 r g h at;
   checks = λ f. absurd (cc);
 })
@@ -186,12 +186,12 @@ holds_3 (suc (suc r)) g h at = absurd (omega (arith, h))
 
 pub all_3 : AllFollow worked_bases from outset t3
 all_3 = one_more worked_bases from outset t2 gets_lock all_2 (record {
-  fits = record { by = λ k h. h; fits = record { txn = tt; acts = λ u e. of_one (plain t2) 1 1 u e refl; audited = λ b found e. absurd (no_verdict (GetsLock 1 5 Exclusive) refl b found e); looked = λ r h. absurd (cc) } };
+  fits = record { by = λ k h. h; fits = record { txn = tt; acts = λ u e. of_one (plain t2) 1 1 u e refl; audited = λ b found e. absurd (no_verdict (GetsLock 1 5 Exclusive) refl b found e); looked = λ r h. absurd (cc); held = tt } };
   effect = refl;
   lands = grants_land worked_bases from outset t2 (5 ∷ 0 ∷ []) 1 1 5 Exclusive y2 refl refl live_2 (λ u n d e. absurd (no_lock u 5 n e));
   silent = λ none. one_silent (Does (Locks 1 5 Exclusive)) refl;
-  passes = refl;
-  locks = refl;
+  steps = refl;
+  writes = refl;
   holds = λ r g h sign at. holds_3 r g h at;
   checks = λ f. absurd (cc);
 })
@@ -242,12 +242,12 @@ holds_4 (suc (suc r)) g h at = absurd (omega (arith, h))
 
 pub all_4 : AllFollow worked_bases from outset t4
 all_4 = one_more worked_bases from outset t3 yields all_3 (record {
-  fits = record { by = λ k h. h; fits = record { txn = tt; acts = λ u e. of_one (plain t3) 2 2 u e refl; audited = λ b found e. absurd (no_verdict (Yields refusal) refl b found e); looked = λ r h. absurd (cc) } };
+  fits = record { by = λ k h. h; fits = record { txn = tt; acts = λ u e. of_one (plain t3) 2 2 u e refl; audited = λ b found e. absurd (no_verdict (Yields refusal) refl b found e); looked = λ r h. absurd (cc); held = tt } };
   effect = refl;
   lands = yields_land worked_bases from outset t3 (6 ∷ 0 ∷ []) 2 2 5 1 Shared y3 (Yields refusal) refl row_3 (in_the_way, omega arith) (inl refl) right_3;
   silent = λ none. one_silent (Does (Refuses 2 5 Shared 1)) refl;
-  passes = refl;
-  locks = refl;
+  steps = refl;
+  writes = refl;
   holds = λ r g h sign at. holds_4 r g h at;
   checks = λ f. absurd (cc);
 })
@@ -264,8 +264,8 @@ all_5 = one_more worked_bases from outset t4 latches all_4 (record {
   effect = refl;
   lands = region_steps_land worked_bases from outset t4 (5 ∷ 2 ∷ []) (Latched 0 1 1) 0 opening (loaded index_words) refl refl (refl, refl, refl, alive_by _ Live (states t4 all_4 1) refl, (refl, refl, ((refl, refl), omega arith), tt, tt));
   silent = λ none. two_silent (Does (StepsOn 0 (Latch 1))) (Does (StepsOn 0 (NoteReads look.read))) refl refl;
-  passes = refl;
-  locks = refl;
+  steps = refl;
+  writes = refl;
   holds = λ r g h sign at. holds_5 r g h at;
   checks = λ f. absurd (cc);
 })
@@ -275,7 +275,7 @@ look_5 : LookFits outset (plain t5) 1 0
 look_5 = record { place = 4; notes = 5 ∷ 2 ∷ []; txn = 1; there = refl; alone = refl; held = refl; live = refl; right = λ check g at. subst (λ (z : RegionState). stray_after 0 z.stray [] ≡ 0) (some_same at) refl }
 
 fits_5 : DeedFits outset (plain t5) (Logs (Forward 1 look)) 1
-fits_5 = record { txn = tt; acts = λ u e. of_one (plain t5) 1 1 u e refl; audited = λ b found e. absurd (no_verdict (Logs (Forward 1 look)) refl b found e); looked = λ r h. subst (LookFits outset (plain t5) 1) (eqb-true 0 r h) look_5 }
+fits_5 = record { txn = tt; acts = λ u e. of_one (plain t5) 1 1 u e refl; audited = λ b found e. absurd (no_verdict (Logs (Forward 1 look)) refl b found e); looked = λ r h. subst (LookFits outset (plain t5) 1) (eqb-true 0 r h) look_5; held = refl }
 
 has_looked_5 : HasLookedFor (world_told outset t5) 1 (Logs (Forward 1 look))
 has_looked_5 = look_is_made outset t5 1 (Logs (Forward 1 look)) (fit_of worked_bases from outset t5 all_5) fits_5
@@ -318,12 +318,12 @@ holds_6 (suc (suc r)) g h at = absurd (omega (arith, h))
 
 pub all_6 : AllFollow worked_bases from outset t6
 all_6 = one_more worked_bases from outset t5 operates all_5 (record {
-  fits = record { by = λ k h. h; fits = record { txn = tt; acts = λ u e. of_one (plain t5) 1 1 u e refl; audited = λ b found e. absurd (no_verdict (Logs (Forward 1 look)) refl b found e); looked = λ r h. subst (LookFits outset (plain t5) 1) (eqb-true 0 r h) look_5 } };
+  fits = record { by = λ k h. h; fits = record { txn = tt; acts = λ u e. of_one (plain t5) 1 1 u e refl; audited = λ b found e. absurd (no_verdict (Logs (Forward 1 look)) refl b found e); looked = λ r h. subst (LookFits outset (plain t5) 1) (eqb-true 0 r h) look_5; held = refl } };
   effect = (refl, refl);
   lands = operates_land worked_bases from outset t5 (5 ∷ 0 ∷ 2 ∷ []) 1 1 look y4 index_held refl refl (record { runs = refl; room = omega arith }) may_look has_looked_5;
   silent = λ none. one_silent (Does (Operates 1 look)) refl;
-  passes = refl;
-  locks = refl;
+  steps = refl;
+  writes = refl;
   holds = λ r g h sign at. holds_6 r g h at;
   checks = λ f. absurd (cc);
 })
@@ -336,12 +336,12 @@ holds_7 (suc (suc r)) g h at = absurd (omega (arith, h))
 
 pub all_7 : AllFollow worked_bases from outset t7
 all_7 = one_more worked_bases from outset t6 answers all_6 (record {
-  fits = record { by = λ k h. h; fits = record { txn = tt; acts = λ u e. of_one (plain t6) 1 1 u e refl; audited = λ b found e. absurd (no_verdict (Logs (Done 1 (Get 5) Missing)) refl b found e); looked = λ r h. absurd (cc) } };
+  fits = record { by = λ k h. h; fits = record { txn = tt; acts = λ u e. of_one (plain t6) 1 1 u e refl; audited = λ b found e. absurd (no_verdict (Logs (Done 1 (Get 5) Missing)) refl b found e); looked = λ r h. absurd (cc); held = tt } };
   effect = refl;
   lands = answers_land worked_bases from outset t6 (5 ∷ 0 ∷ []) 1 1 (Get 5) Missing y5 refl (record { runs = refl; room = omega arith }) (omega arith, omega arith, tt, refl) (record { next = refl; by = logs_by _ Live (Done 1 (Get 5) Missing) (states t6 all_6 1) refl });
   silent = λ none. one_silent (Does (Answers 1 (Get 5) Missing)) refl;
-  passes = refl;
-  locks = refl;
+  steps = refl;
+  writes = refl;
   holds = λ r g h sign at. holds_7 r g h at;
   checks = λ f. absurd (cc);
 })
@@ -354,12 +354,12 @@ holds_8 (suc (suc r)) g h at = absurd (omega (arith, h))
 
 pub all_8 : AllFollow worked_bases from outset t8
 all_8 = one_more worked_bases from outset t7 commits all_7 (record {
-  fits = record { by = λ k h. h; fits = record { txn = refl; acts = λ u e. of_one (plain t7) 1 1 u e refl; audited = λ b found e. absurd (no_verdict (Logs (Commit 1)) refl b found e); looked = λ r h. absurd (cc) } };
+  fits = record { by = λ k h. h; fits = record { txn = refl; acts = λ u e. of_one (plain t7) 1 1 u e refl; audited = λ b found e. absurd (no_verdict (Logs (Commit 1)) refl b found e); looked = λ r h. absurd (cc); held = tt } };
   effect = refl;
   lands = commits_land worked_bases from outset t7 (5 ∷ 0 ∷ []) 1 1 y6 refl refl (record { next = refl; by = logs_by _ Live (Commit 1) (states t7 all_7 1) refl });
   silent = λ none. one_silent (Does (Commits 1)) refl;
-  passes = refl;
-  locks = refl;
+  steps = refl;
+  writes = refl;
   holds = λ r g h sign at. holds_8 r g h at;
   checks = λ f. absurd (cc);
 })
@@ -376,8 +376,8 @@ all_9 = one_more worked_bases from outset t8 takes all_8 (record {
   effect = refl;
   lands = takes_land worked_bases from outset t8 (0 ∷ 1 ∷ []) y7 refl;
   silent = λ none. absurd (cc);
-  passes = refl;
-  locks = refl;
+  steps = refl;
+  writes = refl;
   holds = λ r g h sign at. holds_9 r g h at;
   checks = λ f. absurd (cc);
 })
@@ -394,8 +394,8 @@ all_10 = one_more worked_bases from outset t9 flushes all_9 (record {
   effect = refl;
   lands = flush_lands worked_bases from outset t9 (1 ∷ []) first_vault (Begin 1 ∷ Begin 2 ∷ Forward 1 look ∷ Done 1 (Get 5) Missing ∷ Commit 1 ∷ []) refl refl refl;
   silent = λ none. absurd (cc);
-  passes = refl;
-  locks = refl;
+  steps = refl;
+  writes = refl;
   holds = λ r g h sign at. holds_10 r g h at;
   checks = λ f. absurd (cc);
 })
@@ -421,12 +421,12 @@ holds_11 (suc (suc r)) g h at = absurd (omega (arith, h))
 
 pub all_11 : AllFollow worked_bases from outset t11
 all_11 = one_more worked_bases from outset t10 ends_1 all_10 (record {
-  fits = record { by = λ k h. h; fits = record { txn = tt; acts = λ u e. of_one (plain t10) 1 1 u e refl; audited = λ b found e. absurd (no_verdict (Logs (Ended 1)) refl b found e); looked = λ r h. absurd (cc) } };
+  fits = record { by = λ k h. h; fits = record { txn = tt; acts = λ u e. of_one (plain t10) 1 1 u e refl; audited = λ b found e. absurd (no_verdict (Logs (Ended 1)) refl b found e); looked = λ r h. absurd (cc); held = tt } };
   effect = refl;
   lands = ends_land worked_bases from outset t10 (5 ∷ 0 ∷ []) 1 1 y8 refl refl (record { next = refl; by = logs_by _ Committed (Ended 1) (states t10 all_10 1) refl }) (led t10 all_10) (free_10 all_10) undead_10;
   silent = λ none. one_silent (Does (Ends 1)) refl;
-  passes = refl;
-  locks = refl;
+  steps = refl;
+  writes = refl;
   holds = λ r g h sign at. holds_11 r g h at;
   checks = λ f. absurd (cc);
 })
@@ -452,12 +452,12 @@ holds_12 (suc (suc r)) g h at = absurd (omega (arith, h))
 
 pub all_12 : AllFollow worked_bases from outset t12
 all_12 = one_more worked_bases from outset t11 ends_2 all_11 (record {
-  fits = record { by = λ k h. h; fits = record { txn = tt; acts = λ u e. of_one (plain t11) 2 2 u e refl; audited = λ b found e. absurd (no_verdict (Logs (Ended 2)) refl b found e); looked = λ r h. absurd (cc) } };
+  fits = record { by = λ k h. h; fits = record { txn = tt; acts = λ u e. of_one (plain t11) 2 2 u e refl; audited = λ b found e. absurd (no_verdict (Logs (Ended 2)) refl b found e); looked = λ r h. absurd (cc); held = tt } };
   effect = refl;
   lands = ends_land worked_bases from outset t11 (6 ∷ 0 ∷ []) 2 2 y9 refl refl (record { next = refl; by = logs_by _ Live (Ended 2) (states t11 all_11 2) refl }) (led t11 all_11) (free_11 all_11) undead_11;
   silent = λ none. one_silent (Does (Ends 2)) refl;
-  passes = refl;
-  locks = refl;
+  steps = refl;
+  writes = refl;
   holds = λ r g h sign at. holds_12 r g h at;
   checks = λ f. absurd (cc);
 })
@@ -481,12 +481,12 @@ holds_13 (suc (suc r)) g h at = absurd (omega (arith, h))
 
 pub all_13 : AllFollow worked_bases from outset t13
 all_13 = one_more worked_bases from outset t12 begins_3 all_12 (record {
-  fits = record { by = λ k h. h; fits = record { txn = (unbegun_12, free_12 all_12); acts = λ t e. absurd (cc); audited = λ b found e. absurd (no_verdict (Logs (Begin 3)) refl b found e); looked = λ r h. absurd (cc) } };
+  fits = record { by = λ k h. h; fits = record { txn = (unbegun_12, free_12 all_12); acts = λ t e. absurd (cc); audited = λ b found e. absurd (no_verdict (Logs (Begin 3)) refl b found e); looked = λ r h. absurd (cc); held = tt } };
   effect = refl;
   lands = begins_land worked_bases from outset t12 (5 ∷ 0 ∷ []) 1 y10 refl (record { runs = refl; room = omega arith });
   silent = λ none. one_silent (Does Begins) refl;
-  passes = refl;
-  locks = refl;
+  steps = refl;
+  writes = refl;
   holds = λ r g h sign at. holds_13 r g h at;
   checks = λ f. absurd (cc);
 })
@@ -503,8 +503,8 @@ all_14 = one_more worked_bases from outset t13 latches_again all_13 (record {
   effect = refl;
   lands = region_steps_land worked_bases from outset t13 (5 ∷ 3 ∷ []) (Latched 1 3 1) 1 (Latch 3 ∷ []) (loaded heap_words) refl refl (refl, refl, refl, alive_by _ Live (states t13 all_13 3) refl, tt);
   silent = λ none. one_silent (Does (StepsOn 1 (Latch 3))) refl;
-  passes = refl;
-  locks = refl;
+  steps = refl;
+  writes = refl;
   holds = λ r g h sign at. holds_14 r g h at;
   checks = λ f. absurd (cc);
 })
@@ -514,7 +514,7 @@ look_14 : LookFits outset (plain t14) 1 1
 look_14 = record { place = 13; notes = 5 ∷ 3 ∷ []; txn = 3; there = refl; alone = refl; held = refl; live = refl; right = λ check g at. subst (λ (z : RegionState). stray_after 1 z.stray [] ≡ 0) (some_same at) refl }
 
 fits_14 : DeedFits outset (plain t14) (DiesOn 3 1) 1
-fits_14 = record { txn = tt; acts = λ u e. of_one (plain t14) 1 3 u e refl; audited = λ b found e. absurd (no_verdict (DiesOn 3 1) refl b found e); looked = λ r h. subst (LookFits outset (plain t14) 1) (eqb-true 1 r h) look_14 }
+fits_14 = record { txn = tt; acts = λ u e. of_one (plain t14) 1 3 u e refl; audited = λ b found e. absurd (no_verdict (DiesOn 3 1) refl b found e); looked = λ r h. subst (LookFits outset (plain t14) 1) (eqb-true 1 r h) look_14; held = refl }
 
 has_looked_14 : HasLookedFor (world_told outset t14) 1 (DiesOn 3 1)
 has_looked_14 = look_is_made outset t14 1 (DiesOn 3 1) (fit_of worked_bases from outset t14 all_14) fits_14
@@ -538,8 +538,8 @@ all_15 = one_more worked_bases from outset t14 dies all_14 (record {
   effect = (refl, refl);
   lands = dies_land worked_bases from outset t14 (5 ∷ 0 ∷ 3 ∷ []) 1 3 1 y11 heap_held refl refl (states t14 all_14 3) refl (led t14 all_14) only_14 has_looked_14;
   silent = λ none. one_silent (Does (Dies 3 (Some 1))) refl;
-  passes = refl;
-  locks = refl;
+  steps = refl;
+  writes = refl;
   holds = λ r g h sign at. holds_15 r g h at;
   checks = λ f. absurd (cc);
 })
@@ -560,12 +560,12 @@ holds_16 (suc (suc r)) g h at = absurd (omega (arith, h))
 
 pub all_16 : AllFollow worked_bases from outset t16
 all_16 = one_more worked_bases from outset t15 claims all_15 (record {
-  fits = record { by = λ k h. h; fits = record { txn = (refl, free_15 all_15); acts = λ t e. absurd (cc); audited = λ b found e. absurd (no_verdict (Claims 3) refl b found e); looked = λ r h. absurd (cc) } };
+  fits = record { by = λ k h. h; fits = record { txn = (refl, free_15 all_15); acts = λ t e. absurd (cc); audited = λ b found e. absurd (no_verdict (Claims 3) refl b found e); looked = λ r h. absurd (cc); held = tt } };
   effect = refl;
   lands = claims_land worked_bases from outset t15 (6 ∷ 0 ∷ []) 2 3 (Some 1) y12 refl (states t15 all_15 3);
   silent = λ none. one_silent (Does (ClaimsTxn 3)) refl;
-  passes = refl;
-  locks = refl;
+  steps = refl;
+  writes = refl;
   holds = λ r g h sign at. holds_16 r g h at;
   checks = λ f. absurd (cc);
 })
@@ -582,8 +582,8 @@ all_17 = one_more worked_bases from outset t16 recovers all_16 (record {
   effect = refl;
   lands = recovers_land worked_bases from outset t16 (6 ∷ 3 ∷ []) (Freed 1 2) 1 heap_dead refl refl (record { hold = record { txn = 3; dead = true; read = 0; xor = 0; write = 0 }; at = refl; dead = refl; latched = Some 1; claimed = states t16 all_16 3 });
   silent = λ none. one_silent (Does (Recovers 1)) refl;
-  passes = refl;
-  locks = refl;
+  steps = inr refl;
+  writes = refl;
   holds = λ r g h sign at. holds_17 r g h at;
   checks = λ f. absurd (cc);
 })
@@ -609,12 +609,12 @@ holds_18 (suc (suc r)) g h at = absurd (omega (arith, h))
 
 pub all_18 : AllFollow worked_bases from outset t18
 all_18 = one_more worked_bases from outset t17 ends_3 all_17 (record {
-  fits = record { by = λ k h. h; fits = record { txn = tt; acts = λ u e. of_one (plain t17) 2 3 u e refl; audited = λ b found e. absurd (no_verdict (Logs (Ended 3)) refl b found e); looked = λ r h. absurd (cc) } };
+  fits = record { by = λ k h. h; fits = record { txn = tt; acts = λ u e. of_one (plain t17) 2 3 u e refl; audited = λ b found e. absurd (no_verdict (Logs (Ended 3)) refl b found e); looked = λ r h. absurd (cc); held = tt } };
   effect = refl;
   lands = ends_land worked_bases from outset t17 (6 ∷ 0 ∷ []) 2 3 y13 refl refl (record { next = refl; by = logs_by _ (Cleaning (Some 1)) (Ended 3) (states t17 all_17 3) refl }) (led t17 all_17) (free_17 all_17) undead_17;
   silent = λ none. one_silent (Does (Ends 3)) refl;
-  passes = refl;
-  locks = refl;
+  steps = refl;
+  writes = refl;
   holds = λ r g h sign at. holds_18 r g h at;
   checks = λ f. absurd (cc);
 })
@@ -627,12 +627,12 @@ holds_19 (suc (suc r)) g h at = absurd (omega (arith, h))
 
 pub all_19 : AllFollow worked_bases from outset t19
 all_19 = one_more worked_bases from outset t18 audit_begins all_18 (record {
-  fits = record { by = λ k h. h; fits = record { txn = tt; acts = λ t e. absurd (cc); audited = λ b found e. absurd (no_verdict (Logs AuditBegin) refl b found e); looked = λ r h. absurd (cc) } };
+  fits = record { by = λ k h. h; fits = record { txn = tt; acts = λ t e. absurd (cc); audited = λ b found e. absurd (no_verdict (Logs AuditBegin) refl b found e); looked = λ r h. absurd (cc); held = tt } };
   effect = refl;
   lands = audit_begins_land worked_bases from outset t18 (6 ∷ 0 ∷ []) 2 y14 refl refl (omega arith);
   silent = λ none. one_silent (Does AuditBegins) refl;
-  passes = refl;
-  locks = refl;
+  steps = refl;
+  writes = refl;
   holds = λ r g h sign at. holds_19 r g h at;
   checks = λ f. absurd (cc);
 })
@@ -685,8 +685,8 @@ all_20 = one_more worked_bases from outset t19 passes_index all_19 (record {
   effect = refl;
   lands = step_lands worked_bases from outset t19 (2 ∷ []) (Passed 0 10 true) (OnRegion 0 (checked index_done)) (Passes 10 0) passing_19;
   silent = λ none. one_silent (Does (Passes 10 0)) refl;
-  passes = refl;
-  locks = refl;
+  steps = refl;
+  writes = refl;
   holds = λ r g h sign at. holds_20 r g h at;
   checks = λ f. absurd (cc);
 })
@@ -724,8 +724,8 @@ all_21 = one_more worked_bases from outset t20 passes_heap all_20 (record {
   effect = refl;
   lands = step_lands worked_bases from outset t20 (3 ∷ []) (Passed 1 10 true) (OnRegion 1 (checked heap_free)) (Passes 10 1) passing_20;
   silent = λ none. one_silent (Does (Passes 10 1)) refl;
-  passes = refl;
-  locks = refl;
+  steps = refl;
+  writes = refl;
   holds = λ r g h sign at. holds_21 r g h at;
   checks = λ f. absurd (cc);
 })
@@ -785,12 +785,12 @@ holds_22 (suc (suc r)) g h at = absurd (omega (arith, h))
 
 pub all_22 : AllFollow worked_bases from outset t22
 all_22 = one_more worked_bases from outset t21 audit_ends all_21 (record {
-  fits = record { by = λ k h. h; fits = record { txn = tt; acts = λ t e. absurd (cc); audited = audit_fits; looked = λ r h. absurd (cc) } };
+  fits = record { by = λ k h. h; fits = record { txn = tt; acts = λ t e. absurd (cc); audited = audit_fits; looked = λ r h. absurd (cc); held = tt } };
   effect = refl;
   lands = step_lands worked_bases from outset t21 (6 ∷ 0 ∷ []) (Did (Logs (AuditClean 10)) 2) (OnSystem y16) (AuditEnds 10 []) ending_21;
   silent = λ none. one_silent (Does (AuditEnds 10 [])) refl;
-  passes = refl;
-  locks = refl;
+  steps = refl;
+  writes = refl;
   holds = λ r g h sign at. holds_22 r g h at;
   checks = λ f. absurd (cc);
 })
@@ -807,8 +807,8 @@ all_23 = one_more worked_bases from outset t22 takes_again all_22 (record {
   effect = refl;
   lands = takes_land worked_bases from outset t22 (0 ∷ 1 ∷ []) y16 refl;
   silent = λ none. absurd (cc);
-  passes = refl;
-  locks = refl;
+  steps = refl;
+  writes = refl;
   holds = λ r g h sign at. holds_23 r g h at;
   checks = λ f. absurd (cc);
 })
@@ -821,12 +821,12 @@ holds_24 (suc (suc r)) g h at = absurd (omega (arith, h))
 
 pub all_24 : AllFollow worked_bases from outset t24
 all_24 = one_more worked_bases from outset t23 fails all_23 (record {
-  fits = record { by = λ k h. h; fits = record { txn = tt; acts = λ t e. absurd (cc); audited = λ b found e. absurd (no_verdict (Meets StoreFailed) refl b found e); looked = λ r h. absurd (cc) } };
+  fits = record { by = λ k h. h; fits = record { txn = tt; acts = λ t e. absurd (cc); audited = λ b found e. absurd (no_verdict (Meets StoreFailed) refl b found e); looked = λ r h. absurd (cc); held = tt } };
   effect = (refl, refl);
   lands = fault_lands worked_bases from outset t23 (6 ∷ 0 ∷ 1 ∷ []) 1 2 flushed_vault y17 refl refl refl (inl (omega arith));
   silent = λ none. absurd (cc);
-  passes = refl;
-  locks = refl;
+  steps = refl;
+  writes = refl;
   holds = λ r g h sign at. holds_24 r g h at;
   checks = λ f. absurd (cc);
 })

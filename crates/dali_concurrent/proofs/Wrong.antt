@@ -27,6 +27,7 @@ use Rattle.dali_concurrent.specs.Told.{Effect, Leaves, OnRegion, OnSystem, OnVau
 use Rattle.dali_concurrent.specs.Kept.{txn_in, HoldIs, Follows, AllFollow}
 use Rattle.dali_concurrent.specs.Holds.{IsLed}
 use Rattle.dali_concurrent.proofs.Kept.{fit_of}
+use Rattle.dali_concurrent.proofs.Held.{spared}
 use Rattle.dali_concurrent.proofs.Holds.{live_is, dead_is, dead_there, holds_are_told, hold_is_of_actor}
 use Rattle.dali_concurrent.specs.Wrong.{NoLatch, Unsigned, Unlatched, Unaudited}
 use Rattle.dali_concurrent.proofs.Lists.{take_length, take_more, get_of_front, get_sides}
@@ -219,6 +220,10 @@ unlatched = record {
       not_both_ways (subst (λ n. (c == n) ≡ true) (ap (λ (z : ℕ × ℕ). z.1) same) (eqb-self c)) w.2;
   freed_by_another = λ r c t d bases p o T e led w f.
       let fits : FreeFits o (plain T) r c = entry_fits bases p o T e f (Freed r c) w.0 in freed_by bases p o T led r c t d fits w.1 w.2;
+  back_unheld = λ t c b bases p o T e led w f. let fits : DeedFits o (plain T) (Logs (Back t b)) c = entry_fits bases p o T e f (Did (Logs (Back t b)) c) w.0 in w.1 fits.held;
+  solo_unheld = λ n t c b bases p o T e led w f. let fits : DeedFits o (plain T) (Logs (Solo n t b)) c = entry_fits bases p o T e f (Did (Logs (Solo n t b)) c) w.0 in w.1 fits.held;
+  given_unheld = λ t r c bases p o T e led w f. let fits : DeedFits o (plain T) (GivesBack t (Some r)) c = entry_fits bases p o T e f (Did (GivesBack t (Some r)) c) w.0 in w.1 fits.held;
+  written = λ r i x bases p o T e led w f. spared r e.1.0 e.1.2 f.writes w.2 i x w.0 w.1;
   damaged = λ t c b g bases p o T e led w f.
       let fits : DeedFits o (plain T) (Logs (Forward t b)) c = entry_fits bases p o T e f (Did (Logs (Forward t b)) c) w.0 in
       let look = fits.looked b.region (eqb-self b.region) in w.3 look.place look.txn look.notes look.there (look.right w.1 g w.2);

@@ -1,6 +1,7 @@
 -- Lines that don't land, and what no entry tells.
 use Rattle.std.proofs.Common.{◌≡◌, ◌≢◌, ℕ, zero, suc, ◌+◌, ◌<◌, ◌≤◌, Bool, true, false, List, [], ◌∷◌, ◌++◌, length, Option, Some, None, IsSome, refl, ap, sym, subst, ◌∙◌, ◌⊎◌, inl, inr, ⊎_elim, append_assoc, arith}
 use Rattle.std.specs.Prelude.{◌==◌, ◌||◌, if◌then◌else◌, Contains, filter_map, fold, slice_get, cond, is_some}
+use Rattle.std.specs.List.{list_any}
 use Rattle.std.proofs.lemmas.Bool.{eqb-true}
 use Rattle.std.proofs.lemmas.List.{append-nil}
 use Rattle.std.proofs.lemmas.List.Concat.{flat_map-cons}
@@ -21,7 +22,7 @@ use Rattle.dali_runs.specs.Counts.Counts.{next_with}
 use Rattle.dali_runs.specs.State.{CoreState, stable, taken_to, state_of}
 use Rattle.dali_runs.specs.Run.{Bases, no_image}
 use Rattle.dali_runs.specs.Regions.{IsOpen, is_alive}
-use Rattle.dali_runs.specs.Courses.{Step, Operates, TakesBack, Frees, IsStep}
+use Rattle.dali_runs.specs.Courses.{Step, Operates, TakesBack, Frees, Locks, Takes, Flushes, IsStep}
 use Rattle.dali_region.specs.State.{RegionState}
 use Rattle.dali_lists.proofs.Numbers.{eqb-self}
 use Rattle.dali_runs.proofs.CountsLemmas.NewNumbers.{next_grows}
@@ -39,19 +40,21 @@ use Rattle.dali_transcripts.specs.Causes.{IsRight, AreRightFrom, HasCause}
 use Rattle.dali_transcripts.specs.Transcripts.{IsPath, said_by, own_by, deeds_of as own_deeds}
 use Rattle.dali_transcripts.specs.Rounds.{Standing, AreAnchors, AreSpans}
 use Rattle.dali_transcripts.specs.Telling.Tells.{after, Tells}
-use Rattle.dali_concurrent.specs.Entries.{Did, Latched, deed_in, deeds_of, live_by, live_step}
+use Rattle.dali_concurrent.specs.Entries.{Entry, Did, Latched, Took, Flushed, Copied, deed_in, deeds_of, live_by, live_step}
 use Rattle.dali_concurrent.specs.Rules.{Outset, before, log_by, state_by, live_in, DeedFits}
 use Rattle.dali_concurrent.specs.Told.{Line, History, plain, plain_one, core_told, world_told}
 use Rattle.dali_concurrent.specs.Landing.{said_in, who_in, Stands, Landing}
-use Rattle.dali_concurrent.specs.Kept.{txn_in, Follows}
+use Rattle.dali_concurrent.specs.Kept.{txn_in, is_named, StepsFit, Follows}
 use Rattle.dali_concurrent.specs.Holds.{IsLed}
 use Rattle.dali_concurrent.specs.Clients.{ClientTold}
 use Rattle.dali_concurrent.specs.Wrong.{block_of, Unfit, Unstored, Untold}
 use Rattle.dali_concurrent.proofs.Lists.{take_length}
+use Rattle.dali_concurrent.proofs.Entries.{neither}
 use Rattle.dali_concurrent.proofs.Landing.{onward}
 use Rattle.dali_concurrent.proofs.Kept.{stands_of}
 use Rattle.dali_concurrent.proofs.Told.{plain-append}
 use Rattle.dali_concurrent.proofs.Holds.{holds_are_told, none_is_live, states_are_told}
+use Rattle.dali_concurrent.proofs.Untold.{flushes_are_told}
 use Rattle.dali_concurrent.proofs.Wrong.{one_more, entry_fits, system_stays}
 
 -- ---- where a line leads
@@ -152,7 +155,7 @@ module _ (bases : Bases) (p : Point) (o : Outset) (T : History) (e : Line) (led 
       ∙ (ap (λ l. before o ++ l) (filter_map-append record_of (deeds_of (plain T)) ((Logs (Begin t), c) ∷ []))
       ∙ sym (append_assoc (before o) (logged_by (deeds_of (plain T))) (Begin t ∷ [])))
 
-  not_again : (n : ℕ) → slice_get (log_by o (plain T)) n ≡ Some (Begin t) → ⊥
+  pub not_again : (n : ℕ) → slice_get (log_by o (plain T)) n ≡ Some (Begin t) → ⊥
   not_again n there =
       let g = goes bases p o T e led follows in
       let run = g.stands.run.run in
@@ -324,8 +327,55 @@ module _ (bases : Bases) (p : Point) (o : Outset) (T : History) (e : Line) (led 
       ap (has_failed o.old.vault.stopped) (sym (take_length (deeds_of (plain T)) ((Meets StoreFailed, c) ∷ [])))
       ∙ (tells_deed bases p o T e led follows (Meets StoreFailed) c is).together.faults.once (length (deeds_of (plain T))) c (get_behind (deeds_of (plain T)) (Meets StoreFailed, c) [])
 
+-- ---- what an entry's name tells
+unnamed : (xs : List StoreStep) (i : ℕ) (x : StoreStep) → list_any is_named xs ≡ false → slice_get xs i ≡ Some x → is_named x ≡ false
+unnamed [] i x h e = absurd (cc)
+unnamed (y ∷ xs) zero x h e = subst (λ z. is_named z ≡ false) (some_same e) (neither (is_named y) (list_any is_named xs) h).0
+unnamed (y ∷ xs) (suc i) x h e = unnamed xs i x (neither (is_named y) (list_any is_named xs) h).1 e
+
+no_flush : (x : Deed) (c i : ℕ) (xs : List StoreStep) → StepsFit (Did x c) xs → slice_get xs i ≡ Some (Does Flushes) → ⊥
+no_flush (GetsLock t k m) c i xs fit e = lone i (ap (λ l. slice_get l i) (sym fit) ∙ e)
+  where
+    lone : (i : ℕ) → slice_get (Does (Locks t k m) ∷ []) i ≡ Some (Does Flushes) → ⊥
+    lone zero f = absurd (cc)
+    lone (suc i) f = absurd (cc)
+no_flush x c i xs fit e = let none : true ≡ false = unnamed xs i (Does Flushes) fit e in absurd (cc)
+
+one_copy : (r q n m i : ℕ) → slice_get (Copies r m ∷ []) i ≡ Some (Copies q n) → (q == r) ≡ false → ⊥
+one_copy r q n m zero e h = let same : q ≡ r = cc in not_both_ways (subst (λ z. (q == z) ≡ true) same (eqb-self q)) h
+one_copy r q n m (suc i) e h = absurd (cc)
+
+one_skip : (r q n m i : ℕ) → slice_get (Skips r m ∷ []) i ≡ Some (Copies q n) → ⊥
+one_skip r q n m zero e = absurd (cc)
+one_skip r q n m (suc i) e = absurd (cc)
+
+other_copy : (r q n i : ℕ) (xs : List StoreStep) → StepsFit (Copied r) xs → slice_get xs i ≡ Some (Copies q n) → (q == r) ≡ false → ⊥
+other_copy r q n i xs (m, inl fit) e h = one_copy r q n m i (ap (λ l. slice_get l i) (sym fit) ∙ e) h
+other_copy r q n i xs (m, inr fit) e h = one_skip r q n m i (ap (λ l. slice_get l i) (sym fit) ∙ e)
+
+module _ (bases : Bases) (p : Point) (o : Outset) (T : History) (e : Line) (led : IsLed bases p o T) (follows : Follows bases p o T e) where
+  steps_are : (z : Entry) → e.1.0 ≡ z → StepsFit z e.1.2
+  steps_are z is = subst (λ y. StepsFit y e.1.2) is follows.steps
+
+  frame_only : e.1.0 ≡ Took → stable (core_told o (T ++ e ∷ [])) ≡ stable (core_told o T)
+  frame_only is =
+      let g = goes bases p o T e led follows in
+      let course : IsPointCourse g.from (Does Takes ∷ []) g.to = subst (λ xs. IsPointCourse g.from xs g.to) (steps_are Took is) g.land.course in
+      ap stable (sym (core_is bases p o T e led follows)) ∙ (ap (λ (z : Point). stable z.core) (sym course.2) ∙ (ap stable course.1.1.0.1 ∙ ap stable g.stood.comes.core))
+
+  flush_only : e.1.0 ≡ Flushed → (core_told o (T ++ e ∷ [])).system ≡ (core_told o T).system
+  flush_only is =
+      let g = goes bases p o T e led follows in
+      let course : IsPointCourse g.from (Does Flushes ∷ []) g.to = subst (λ xs. IsPointCourse g.from xs g.to) (steps_are Flushed is) g.land.course in
+      ap (λ (d : CoreState). d.system) (sym (core_is bases p o T e led follows))
+      ∙ (ap (λ (z : Point). z.core.system) (sym course.2) ∙ (ap (λ (d : CoreState). d.system) course.1.1.0.1.1 ∙ ap (λ (d : CoreState). d.system) g.stood.comes.core))
+
 pub unstored : Unstored
 unstored = record {
+  taken = λ bases p o T e led w f. w.1 (frame_only bases p o T e led f w.0);
+  flushed = λ bases p o T e led w f. w.1 (flush_only bases p o T e led f w.0);
+  besides = λ x c i bases p o T e led w f. no_flush x c i e.1.2 (steps_are bases p o T e led f (Did x c) w.0) w.1;
+  copied = λ r q n i bases p o T e led w f. other_copy r q n i e.1.2 (steps_are bases p o T e led f (Copied r) w.0) w.1 w.2;
   untaken = λ bases p o T e led w f.
       let same : taken_to (core_told o (T ++ e ∷ [])).system ≡ taken_to (core_told o T).system = ap taken_to (system_stays bases p o T e f w.0) in
       omega (arith, w.1, same, within_taken bases p o T e led f);
@@ -415,5 +465,6 @@ untold = record {
   turn = λ bases p o T led w.
       let at = stands_of bases p o T led.begins led.all in
       w.1 (anchor_stays o.old.vault.current (core_told o T).vault.current (deeds_of (plain T)) at.1.tells.together.anchors w.0);
+  flush = λ bases p o T led w. w.1 (flushes_are_told bases p o led.begins T led.all w.0);
   commit = λ s o T told ok none. let k = committed_told s o T told ok in let low = none k.txn k.number k.own_one in let below = k.flushed in omega (arith, low, below);
 }

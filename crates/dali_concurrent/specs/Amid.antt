@@ -1,23 +1,31 @@
 -- What a client amid a call may rely on that has only its own note, and comes back to a lock.
 --     OwnHoldIsSeen            a live hold of its own is from what it has seen
 --     NoneLiveIsSeen           where it has seen no live hold of a transaction that it acts for, there is none
---     is_apart t x             the record x concerns t, though it is done for another one: a solo of this number, or a restart
---     OthersLog                what others log concerns no transaction that it acts for, but where it is apart, and leaves that one's undos
---     IsUnlooked r R           among these entries is a deed that wants the hold of the region r, and asks for no look
---     OwnHoldStays             its live hold stays, but where others do such a deed
+--     OwnHoldStays             its live hold stays
+--     HeldRegionStays          so others only check that region, clear a flag of it, or write astray there
+--     OthersLog                what others log concerns no transaction that it acts for, and leaves that one's undos
+--     OthersLeaveBe            the core that they leave has that one's row, locks and place in the rules, and no hold of it that wasn't there: so what dali_calls says
+--                              of steps between two of a call's is so of theirs
 --     DeadIsSeen               a dead hold of a transaction that it acts for is from what it has seen
 --     FreedStaysFree           behind its own `Freed` the region has no dead hold of that one, until it dies there again
-use Rattle.std.specs.Prelude.{◌≡◌, ◌⊎◌, ℕ, Bool, true, false, List, ◌∷◌, ◌++◌, ◌==◌, Some, slice_get}
+use Rattle.std.specs.Prelude.{◌≡◌, ℕ, true, false, List, ◌∷◌, ◌++◌, Some, slice_get}
+use Rattle.std.specs.List.{list_all}
 use Rattle.dali_record.specs.declared.records.Record.{Record}
-use Rattle.dali_record.specs.declared.records.Record.TheVariants.{Solo, Restarted}
 use Rattle.dali_record.specs.Legal.{concerns}
 use Rattle.dali_record.specs.Log.{undos_of}
-use Rattle.dali_runs.specs.Regions.{is_alive}
-use Rattle.dali_transcripts.specs.World.{Deed, DiesOn}
-use Rattle.dali_transcripts.specs.Rounds.{is_on}
+use Rattle.dali_region.specs.State.{RegionState}
+use Rattle.dali_runs.specs.Run.{Bases}
+use Rattle.dali_runs.specs.Regions.{RegionStep, is_alive}
+use Rattle.dali_crash.specs.Checkpoints.{Point}
+use Rattle.dali_calls.specs.Stepwise.Beside.{LeavesBe}
+use Rattle.dali_transcripts.specs.World.{DiesOn}
 use Rattle.dali_notes.specs.History.{IsSeen}
 use Rattle.dali_concurrent.specs.Entries.{Did, Freed, Entries, At, client_note, live_by, actor_by}
-use Rattle.dali_concurrent.specs.Rules.{Outset, count_of, log_by, state_by, dead_by, NoneLive, is_looked, AllFit}
+use Rattle.dali_concurrent.specs.Rules.{Outset, count_of, log_by, state_by, dead_by, NoneLive, AllFit}
+use Rattle.dali_concurrent.specs.Told.{History, plain, core_told}
+use Rattle.dali_concurrent.specs.Sorts.{after_all}
+use Rattle.dali_concurrent.specs.Kept.{is_outside}
+use Rattle.dali_concurrent.specs.Holds.{IsLed}
 
 -- ---- its holds
 abbrev pub OwnHoldIsSeen : Type 0
@@ -31,34 +39,31 @@ NoneLiveIsSeen =
     → actor_by t seen ≡ Some c → is_alive (state_by o seen t) ≡ true
     → NoneLive seen t → NoneLive new t
 
-pub record IsUnlooked (r : ℕ) (R : Entries) : Type 0 where
-  pub place : ℕ
-  pub notes : List ℕ
-  pub deed : Deed
-  pub client : ℕ
-  pub there : At R place (notes, Did deed client)
-  pub on : is_on r deed ≡ true
-  pub unlooked : is_looked r deed ≡ false
-
 abbrev pub OwnHoldStays : Type 0
 OwnHoldStays =
-    (o : Outset) (r t c : ℕ) (seen new : Entries) → AllFit o new → (is : IsSeen new (client_note (count_of o) c) seen)
-    → live_by r seen ≡ Some (t, c)
-    → (live_by r new ≡ Some (t, c)) ⊎ IsUnlooked r is.rest
+    (o : Outset) (r t c : ℕ) (seen new : Entries) → AllFit o new → IsSeen new (client_note (count_of o) c) seen
+    → live_by r seen ≡ Some (t, c) → live_by r new ≡ Some (t, c)
+
+abbrev pub HeldRegionStays : Type 0
+HeldRegionStays =
+    (bases : Bases) (p : Point) (o : Outset) (r t c : ℕ) (seen new : History) → IsLed bases p o new → IsSeen new (client_note (count_of o) c) seen
+    → live_by r (plain seen) ≡ Some (t, c) → (g : RegionState) → slice_get (core_told o seen).regions r ≡ Some g
+    → (xs : List RegionStep) × (list_all is_outside xs ≡ true) × (slice_get (core_told o new).regions r ≡ Some (after_all xs g))
 
 -- ---- what others log
-abbrev pub is_apart : ℕ → Record → Bool
-is_apart t (Solo u p b) = u == t
-is_apart t (Restarted rs ds) = true
-is_apart t x = false
-
 abbrev pub OthersLog : Type 0
 OthersLog =
-    (o : Outset) (t c : ℕ) (seen new : Entries) → AllFit o new → IsSeen new (client_note (count_of o) c) seen
-    → actor_by t seen ≡ Some c → is_alive (state_by o seen t) ≡ true
-    → (more : List Record) × (log_by o new ≡ log_by o seen ++ more)
-    × ((i : ℕ) (x : Record) → slice_get more i ≡ Some x → is_apart t x ≡ false → concerns t x ≡ false)
-    × (undos_of t (log_by o new) ≡ undos_of t (log_by o seen))
+    (bases : Bases) (p : Point) (o : Outset) (t c : ℕ) (seen new : History) → IsLed bases p o new → IsSeen new (client_note (count_of o) c) seen
+    → actor_by t (plain seen) ≡ Some c → is_alive (state_by o (plain seen) t) ≡ true
+    → (more : List Record) × (log_by o (plain new) ≡ log_by o (plain seen) ++ more)
+    × ((i : ℕ) (x : Record) → slice_get more i ≡ Some x → concerns t x ≡ false)
+    × (undos_of t (log_by o (plain new)) ≡ undos_of t (log_by o (plain seen)))
+
+abbrev pub OthersLeaveBe : Type 0
+OthersLeaveBe =
+    (bases : Bases) (p : Point) (o : Outset) (t c : ℕ) (seen new : History) → IsLed bases p o new → IsSeen new (client_note (count_of o) c) seen
+    → actor_by t (plain seen) ≡ Some c → is_alive (state_by o (plain seen) t) ≡ true
+    → LeavesBe t (log_by o (plain seen)) (core_told o seen) (log_by o (plain new)) (core_told o new)
 
 -- ---- dead holds
 abbrev pub DeadIsSeen : Type 0

@@ -5,10 +5,9 @@
 --     VaultAt .. v T           wherever the history has come, the vault is at that point, and while it runs the next image is as far as the checkpoint's
 --                              stage tells
 --     FilesHold                so while it runs the image files have the place of each region whose flag is clear
---     HeldWhile, HeldFaults    so `VaultHeld` is so of it then, and behind a fault in a call that isn't a run's write
 --     is_still x, AreStill R   the step x calls no store;  nor does one of these entries
 --     AtMeets                  such entries leave it so
---     FlushStays               and so does a flush of the vault's own
+--     FlushHolds, FaultHolds   and so does a flush of the vault's own, with one batch more, and a fault in one
 --     HeaderHolds, TableHolds, SyncHolds, TurnHolds    a call of a checkpoint leaves it so behind its entry
 --     HeadFaultHolds, SyncFaultHolds, TurnFaultHolds   and its fault behind that, with the stop
 --     VaultBut .. r ws v T     regions from r on were copied, and their words wait to be written: so the vault is but for that write
@@ -24,23 +23,24 @@ use Rattle.dali_store.specs.declared.store.Store.{Ghosts}
 use Rattle.dali_log.specs.Batch.{Framed}
 use Rattle.dali_runs.specs.State.{SystemState, VaultState, stable}
 use Rattle.dali_runs.specs.Flushes.{frame_of, with_batch}
-use Rattle.dali_runs.specs.Courses.{Flushes, Faults, ReadFails}
+use Rattle.dali_runs.specs.Courses.{Flushes, Faults, ReadFails, Stops}
 use Rattle.dali_crash.specs.Checkpoints.{Head, StoreStep, Does, Starts, Keeps, Copies, Skips, WritesHead, Syncs, Turns, HeadFails, SyncFails, TurnFails, Finishes, Point, side_of}
 use Rattle.dali_crash.specs.Traces.{Start, bases_of}
 use Rattle.dali_crash.specs.Disks.Disks.{header_bytes, table_bytes, image_name}
 use Rattle.dali_crash.specs.Disks.Places.{place_of}
+use Rattle.dali_transcripts.specs.Words.{StoreFailed}
+use Rattle.dali_transcripts.specs.World.{Meets}
 use Rattle.dali_core.specs.Vault.Vaulted.{Vaulted}
 use Rattle.dali_core.specs.Steps.At.{IsAt}
 use Rattle.dali_core.specs.Steps.Called.{IsUnderWayIn, IsWholeIn, IsHeldIn}
-use Rattle.dali_core.specs.Steps.Said.{IsFrameAt, HasFlushed, HasWritten, WriteHasFailed, HasSynced, SyncHasFailed, HasTurned, TurnHasFailed}
-use Rattle.dali_core.specs.Cores.{HoldsPlaces, IsNoShorter}
+use Rattle.dali_core.specs.Steps.Said.{IsFrameAt, HasFlushed, FlushHasFailed, HasWritten, WriteHasFailed, HasSynced, SyncHasFailed, HasTurned, TurnHasFailed}
+use Rattle.dali_core.specs.Cores.{HoldsPlaces}
 use Rattle.dali_checkpoint.specs.CopiedOut.{IsAtBut, IsUnderWayBut}
-use Rattle.dali_concurrent.specs.Entries.{Entry}
+use Rattle.dali_concurrent.specs.Entries.{Entry, Did}
 use Rattle.dali_concurrent.specs.Rules.{Outset, log_by, count_of}
-use Rattle.dali_concurrent.specs.Told.{Effect, OnVault, Line, History, plain, core_told}
+use Rattle.dali_concurrent.specs.Told.{Effect, OnVault, OnStop, Line, History, plain, core_told}
 use Rattle.dali_concurrent.specs.Landing.{BeginsAt, Stands}
 use Rattle.dali_concurrent.specs.Copying.{IsBegun, failed_with}
-use Rattle.dali_concurrent.specs.Stored.{VaultHeld}
 use Rattle.dali_concurrent.specs.Stages.{Image, Stage, HasKept, Copying, Settled, stage_by}
 
 abbrev pub is_still : StoreStep → Bool
@@ -98,16 +98,6 @@ module _ {V : Type 0} (means : Ghosts V) where
       (s : Start) (B : List (List Record)) (p : Point) (o : Outset) (v : Vaulted V) (T : History) → VaultAt s B p o v T → v.stopped ≡ false
       → (q : Point) → Stands (bases_of s) p o T q → IfSome (means.told v.store) (HoldsPlaces q.core.regions)
 
-  abbrev pub HeldWhile : Type 0
-  HeldWhile = (s : Start) (B : List (List Record)) (p : Point) (o : Outset) (v : Vaulted V) (T : History) → VaultAt s B p o v T → v.stopped ≡ false → VaultHeld means s B p o v T
-
-  -- a fault that made no image file shorter, where no region's flag was cleared
-  abbrev pub HeldFaults : Type 0
-  HeldFaults =
-      (s : Start) (B : List (List Record)) (p : Point) (o : Outset) (T : History) (ks : List ℕ) (c n : ℕ) (step : StoreStep) (x : VaultState) (y : SystemState) (v w : Vaulted V) → BeginsAt (bases_of s) p o
-      → VaultHeld means s B p o v T → VaultAt s B p o w (T ++ (ks, failed_with step x y n c) ∷ []) → IsNoShorter means.told v w
-      → VaultHeld means s B p o w (T ++ (ks, failed_with step x y n c) ∷ [])
-
   -- ---- no call
   abbrev pub AtMeets : Type 0
   AtMeets =
@@ -115,11 +105,19 @@ module _ {V : Type 0} (means : Ghosts V) where
       → VaultAt s B p o v S → VaultAt s B p o v (S ++ R)
 
   -- ---- the calls, each with its own entry
-  abbrev pub FlushStays : Type 0
-  FlushStays =
+  -- a flush of the frame that was taken, which leads the vault from v to w
+  abbrev pub FlushHolds : Type 0
+  FlushHolds =
       (s : Start) (B : List (List Record)) (p : Point) (o : Outset) (T : History) (ks : List ℕ) (e : Entry) (after : VaultState) (v w : Vaulted V) (f : Framed) → BeginsAt (bases_of s) p o
       → VaultAt s B p o v T → ((q : Point) → Stands (bases_of s) p o T q → IsFrameAt q f) → HasFlushed means v f w
       → VaultAt s (with_batch B (frame_of (log_by o (plain T)) (core_told o T))) p o w (T ++ (ks, (e, OnVault after, Does Flushes ∷ [])) ∷ [])
+
+  -- or a fault in one, which stops the vault and the engine
+  abbrev pub FaultHolds : Type 0
+  FaultHolds =
+      (s : Start) (B : List (List Record)) (p : Point) (o : Outset) (T : History) (ks : List ℕ) (c : ℕ) (x : VaultState) (y : SystemState) (v w : Vaulted V) (f : Framed) → BeginsAt (bases_of s) p o
+      → VaultAt s B p o v T → ((q : Point) → Stands (bases_of s) p o T q → IsFrameAt q f) → FlushHasFailed means v f w
+      → VaultAt s B p o w (T ++ (ks, (Did (Meets StoreFailed) c, OnStop x y, Does (Faults (means.faults w.store)) ∷ Does Stops ∷ [])) ∷ [])
 
   -- ---- a write, a sync and the anchor's move, each with its own entry
   abbrev pub HeaderHolds : Type 0

@@ -1,23 +1,18 @@
 -- What entries of others leave of a checkpoint.
 --     StageSees                behind entries of others the client's checkpoint is under way still and as far, and they make no step of one
 --     CalmSees                 those that the vault's note hasn't signed either may stand between the copies of a run and its write
---     AtSees                   entries that the vault's note hasn't signed leave the vault where the history has come to
-use Rattle.std.specs.Prelude.{◌≡◌, ℕ, List, Some}
-use Rattle.dali_record.specs.declared.records.Record.{Record}
-use Rattle.dali_store.specs.declared.store.Store.{Ghosts}
+use Rattle.std.specs.Prelude.{◌≡◌, ℕ, Some}
 use Rattle.dali_runs.specs.Run.{Bases}
 use Rattle.dali_crash.specs.Checkpoints.{Point}
-use Rattle.dali_crash.specs.Traces.{Start, bases_of}
 use Rattle.dali_transcripts.specs.World.{under_way}
-use Rattle.dali_core.specs.Vault.Vaulted.{Vaulted}
 use Rattle.dali_notes.specs.History.{IsSeen}
 use Rattle.dali_concurrent.specs.Entries.{vault_note, client_note, deeds_of}
 use Rattle.dali_concurrent.specs.Rules.{Outset, count_of}
 use Rattle.dali_concurrent.specs.Told.{History, plain}
-use Rattle.dali_concurrent.specs.Landing.{BeginsAt, Stands}
+use Rattle.dali_concurrent.specs.Landing.{Stands}
 use Rattle.dali_concurrent.specs.Kept.{AllFollow}
 use Rattle.dali_concurrent.specs.Stages.{stage_by, AreCoreSteps, IsBehind}
-use Rattle.dali_concurrent.specs.Calls.{AreCalm, VaultAt}
+use Rattle.dali_concurrent.specs.Calls.{AreCalm}
 
 abbrev pub StageSees : Type 0
 StageSees =
@@ -28,8 +23,3 @@ StageSees =
 abbrev pub CalmSees : Type 0
 CalmSees =
     (bases : Bases) (p : Point) (o : Outset) (seen new : History) → AllFollow bases p o new → (is : IsSeen new vault_note seen) → AreCoreSteps is.rest → AreCalm is.rest
-
-abbrev pub AtSees : {V : Type 0} → Ghosts V → Type 0
-AtSees {V} means =
-    (s : Start) (B : List (List Record)) (p : Point) (o : Outset) (seen new : History) (v : Vaulted V) → BeginsAt (bases_of s) p o → IsSeen new vault_note seen → AllFollow (bases_of s) p o new
-    → VaultAt means s B p o v seen → VaultAt means s B p o v new

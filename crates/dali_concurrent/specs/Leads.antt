@@ -1,5 +1,5 @@
 -- What a round in threads promises, and what its caller holds where it ends.
---     MayBegin s B p gs y v    a run from the start s has come to the point p, where the core stands with its image files, and a round may begin
+--     MayBegin s B p gs y v    a run from the start s has come to the point p, where the core stands, and a round may begin
 --     FromEach gs y v P        so it is of each start and point with which it may have begun
 --     outset_of precheck s p   the outset there
 --     OutsetBegins             from there a history may begin
@@ -35,7 +35,8 @@ use Rattle.dali_concurrent.specs.Told.{Item, Line, History, plain, world_told}
 use Rattle.dali_concurrent.specs.Landing.{BeginsAt}
 use Rattle.dali_concurrent.specs.Kept.{Follows, SystemTold, RegionTold}
 use Rattle.dali_concurrent.specs.Clients.{ClientTold}
-use Rattle.dali_concurrent.specs.Stored.{VaultHeld, NoneInHand}
+use Rattle.dali_concurrent.specs.Calls.{VaultAt}
+use Rattle.dali_concurrent.specs.Stored.{NoneInHand}
 use Rattle.dali_concurrent.specs.Moments.{EndsRight, VaultMoments}
 
 abbrev pub outset_of : Bool → Start → Point → Outset
@@ -66,7 +67,6 @@ module _ {V : Type 0} (means : Ghosts V) where
   -- ---- where a round begins
   pub record MayBegin (s : Start) (B : List (List Record)) (p : Point) (gs : List RegionState) (y : SystemState) (v : Vaulted V) : Type 0 where
     pub stands : StandsAt means s B p gs y v
-    pub files : IfSome (means.told v.store) (HoldsPlaces gs)
     pub keeps : FlagTells p
     pub between : IsBetween p.core
 
@@ -83,7 +83,7 @@ module _ {V : Type 0} (means : Ghosts V) where
   -- v: the vault where it began
   pub record VaultEnds (s : Start) (p : Point) (o : Outset) (v u : Vaulted V) (T : History) : Type 0 where
     pub batches : List (List Record)
-    pub held : VaultHeld means s batches p o u T
+    pub held : VaultAt means s batches p o u T
     pub flushed : NoneInHand means o u T
     pub moments : VaultMoments means s p o v u T
 
@@ -108,7 +108,7 @@ module _ {V : Type 0} (means : Ghosts V) where
     pub steps : List StoreStep
     pub course : IsPointCourse p steps to
     pub stands : StandsAt means s batches to hs z u
-    pub files : IfSome (means.told u.store) (HoldsPlaces hs)
+    pub files : u.stopped ≡ false → IfSome (means.told u.store) (HoldsPlaces hs)
     pub keeps : FlagTells to
     pub round : IsRound precheck whole s.log p.core to.core blocks lines receipts
     pub right : EndsRight means.told means.moment means.left_since s p v hs z u

@@ -11,6 +11,8 @@ pub mod Locking
 pub mod Cases
 pub mod Clients
 pub mod Amid
+pub mod Own
+pub mod Refused
 pub mod Closed
 pub mod Round
 pub mod Stored
@@ -22,6 +24,6 @@ pub mod Finish
 pub mod Starts
 pub mod Audits
 pub mod Leads
-pub mod Same
 pub mod Wrong
 pub mod Worked
+pub mod WorkedCheckpoint

@@ -10,6 +10,7 @@
 --                              other deed wanted the hold
 --     BeganAudit o P c b       the client c began the audit from record b
 --     AuditFits o P c b found  its end may follow, which names these regions: it has passed each region, and found these damaged
+--     HoldFits o P x c         what a deed on a region is done under: the client's live hold, for the deed's transaction, or a dead one that it leaves
 --     DeedFits o P x c         what a deed asks for
 --     LatchFits, FreeFits, PassFits    what the other entries ask for
 --     Fits o P p               the entry p may follow these entries
@@ -115,6 +116,15 @@ pub record LookFits (o : Outset) (P : Entries) (c r : ℕ) : Type 0 where
   -- who takes back what was done may latch a damaged region too
   pub right : o.precheck ≡ true → (g : RegionState) → slice_get o.old.regions r ≡ Some g → stray_after r g.stray (deeds_of (take place P)) ≡ 0
 
+-- who operates on a region, takes back, frees or dies there has its live hold;  what is given back is dead there
+abbrev pub HoldFits : Outset → Entries → Deed → ℕ → Type 0
+HoldFits o P (Logs (Forward t b)) c = live_by b.region P ≡ Some (t, c)
+HoldFits o P (Logs (Back t b)) c = live_by b.region P ≡ Some (t, c)
+HoldFits o P (Logs (Solo n t b)) c = live_by b.region P ≡ Some (t, c)
+HoldFits o P (DiesOn t r) c = live_by r P ≡ Some (t, c)
+HoldFits o P (GivesBack t (Some r)) c = dead_by o r P ≡ Some t
+HoldFits o P x c = Unit {0}
+
 pub record BeganAudit (o : Outset) (P : Entries) (c b : ℕ) : Type 0 where
   pub place : ℕ
   pub notes : List ℕ
@@ -132,6 +142,7 @@ pub record DeedFits (o : Outset) (P : Entries) (x : Deed) (c : ℕ) : Type 0 whe
   -- an audit is ended by who began it, and has passed each region
   pub audited : (b : ℕ) (found : List ℕ) → x ≡ Logs (audit_record b found) → AuditFits o P c b found
   pub looked : (r : ℕ) → is_looked r x ≡ true → LookFits o P c r
+  pub held : HoldFits o P x c
 
 -- ---- other entries
 pub record LatchFits (o : Outset) (P : Entries) (r t c : ℕ) : Type 0 where

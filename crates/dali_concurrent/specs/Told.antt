@@ -1,5 +1,6 @@
 -- A history: entries with what they leave, and the core and the world that it tells.
 --     Effect                   what an entry leaves of the values whose locks are in hand
+--     vault_on was v           the vault behind an entry that leaves v
 --     Item                     an entry with its effect, and with the steps of the core since the last entry
 --     Line, History            an item behind the numbers of the notes that signed it;  a list of these
 --     plain H                  the entries alone
@@ -30,13 +31,17 @@ pub data Effect : Type 0 where
   -- the store fails
   OnStop : (vault : VaultState) → (system : SystemState) → Effect
 
+-- how many faults were counted before the run is of where it began: who has the vault in hand doesn't know it
+abbrev pub vault_on : VaultState → VaultState → VaultState
+vault_on was v = record v { faults_then = was.faults_then }
+
 abbrev pub effect_on : CoreState → Effect → CoreState
 effect_on c Leaves = c
 effect_on c (OnRegion r g) = record { regions = slice_set c.regions r g; system = c.system; vault = c.vault }
 effect_on c (OnSystem y) = record { regions = c.regions; system = y; vault = c.vault }
-effect_on c (OnVault v) = record { regions = c.regions; system = c.system; vault = v }
+effect_on c (OnVault v) = record { regions = c.regions; system = c.system; vault = vault_on c.vault v }
 effect_on c (OnBoth r g y) = record { regions = slice_set c.regions r g; system = y; vault = c.vault }
-effect_on c (OnStop v y) = record { regions = c.regions; system = y; vault = v }
+effect_on c (OnStop v y) = record { regions = c.regions; system = y; vault = vault_on c.vault v }
 
 abbrev pub Item : Type 0
 Item = Entry × Effect × List StoreStep

@@ -10,7 +10,7 @@
 --     Untold                   what no entry tells
 use Rattle.std.specs.Prelude.{◌≡◌, ◌≢◌, ℕ, ◌+◌, ◌<◌, ◌≤◌, ◌==◌, Bool, true, false, List, [], ◌∷◌, ◌++◌, Option, Some, None, Contains, slice_get, take}
 use Rattle.dali_record.specs.declared.operations.Block.{Block}
-use Rattle.dali_record.specs.declared.records.Record.TheVariants.{Begin, Forward, Commit, AuditClean}
+use Rattle.dali_record.specs.declared.records.Record.TheVariants.{Begin, Forward, Back, Solo, Commit, AuditClean}
 use Rattle.dali_record.specs.Damage.{has}
 use Rattle.dali_region.specs.State.{RegionState}
 use Rattle.dali_locks.specs.declared.mode.Mode.{Mode}
@@ -20,19 +20,19 @@ use Rattle.dali_runs.specs.State.{stable, taken_to}
 use Rattle.dali_runs.specs.Run.{Bases}
 use Rattle.dali_runs.specs.Steps.{audit_record}
 use Rattle.dali_runs.specs.Regions.{is_alive}
-use Rattle.dali_runs.specs.Courses.{Step, Operates, TakesBack, Frees}
-use Rattle.dali_crash.specs.Checkpoints.{StoreStep, Does, Head, Turns, Point, MayTurn}
+use Rattle.dali_runs.specs.Courses.{Step, Operates, TakesBack, Frees, Flushes}
+use Rattle.dali_crash.specs.Checkpoints.{StoreStep, Does, Head, Copies, Turns, Point, MayTurn}
 use Rattle.dali_transcripts.specs.Words.{StoreFailed, CommitOk}
-use Rattle.dali_transcripts.specs.World.{Deed, Logs, Claims, GetsLock, StartsCheckpoint, MovesAnchor, EndsCheckpoint, Meets, has_failed, is_dead_in, lock_after, stray_after, under_way}
+use Rattle.dali_transcripts.specs.World.{Deed, Logs, Claims, GivesBack, GetsLock, StartsCheckpoint, MovesAnchor, EndsCheckpoint, Meets, has_failed, is_dead_in, lock_after, stray_after, under_way}
 use Rattle.dali_transcripts.specs.Transcripts.{deeds_of as own_deeds}
 use Rattle.dali_transcripts.specs.Rounds.{Standing, is_on}
 use Rattle.dali_transcripts.specs.Touches.{touches, is_at}
 use Rattle.dali_notes.specs.History.{signs}
-use Rattle.dali_concurrent.specs.Entries.{Did, Latched, Updated, Freed, Passed, Flushed, Entries, At, system_note, vault_note, region_note, client_note, notes_of, deeds_of, live_by, actor_by}
-use Rattle.dali_concurrent.specs.Rules.{Outset, count_of, log_by, state_by, acting_for, is_looked}
+use Rattle.dali_concurrent.specs.Entries.{Did, Latched, Updated, Freed, Passed, Took, Flushed, Copied, Entries, At, system_note, vault_note, region_note, client_note, notes_of, deeds_of, live_by, actor_by}
+use Rattle.dali_concurrent.specs.Rules.{Outset, count_of, log_by, state_by, acting_for, is_looked, dead_by}
 use Rattle.dali_concurrent.specs.Told.{Line, History, plain, core_told, world_told}
 use Rattle.dali_concurrent.specs.Landing.{Stands}
-use Rattle.dali_concurrent.specs.Kept.{is_silent, txn_in, HoldIs, Follows}
+use Rattle.dali_concurrent.specs.Kept.{is_silent, wants, writes_to, txn_in, HoldIs, Follows}
 use Rattle.dali_concurrent.specs.Holds.{IsLed}
 use Rattle.dali_concurrent.specs.Clients.{ClientTold}
 
@@ -80,6 +80,12 @@ pub record Unlatched : Type 0 where
   pub let_go : (r c : ℕ) (x : Deed) → is_looked r x ≡ true → Never (λ o T e. (e.1.0 ≡ Did x c) × (live_by r (plain T) ≡ None))
   pub updated_by_another : (r c t d : ℕ) → Never (λ o T e. (e.1.0 ≡ Updated r c) × (live_by r (plain T) ≡ Some (t, d)) × ((c == d) ≡ false))
   pub freed_by_another : (r c t d : ℕ) → Never (λ o T e. (e.1.0 ≡ Freed r c) × (live_by r (plain T) ≡ Some (t, d)) × ((c == d) ≡ false))
+  -- what is taken back, or freed, without the live hold of its transaction;  a claim that is given back with a region that isn't dead
+  pub back_unheld : (t c : ℕ) (b : Block) → Never (λ o T e. (e.1.0 ≡ Did (Logs (Back t b)) c) × (live_by b.region (plain T) ≢ Some (t, c)))
+  pub solo_unheld : (n t c : ℕ) (b : Block) → Never (λ o T e. (e.1.0 ≡ Did (Logs (Solo n t b)) c) × (live_by b.region (plain T) ≢ Some (t, c)))
+  pub given_unheld : (t r c : ℕ) → Never (λ o T e. (e.1.0 ≡ Did (GivesBack t (Some r)) c) × (dead_by o r (plain T) ≢ Some t))
+  -- a hold, or words otherwise than by a stray write, that change where no entry tells it
+  pub written : (r i : ℕ) (x : StoreStep) → Never (λ o T e. (slice_get e.1.2 i ≡ Some x) × (writes_to x ≡ Some r) × (wants r e.1.0 ≡ false))
   -- with precheck an operation for which its client latched a region whose stray writes didn't cancel
   pub damaged : (t c : ℕ) (b : Block) (g : RegionState)
       → Never (λ o T e. (e.1.0 ≡ Did (Logs (Forward t b)) c) × (o.precheck ≡ true) × (slice_get o.old.regions b.region ≡ Some g)
@@ -129,6 +135,11 @@ pub record Unstored : Type 0 where
   pub again : Never (λ o T e. (signs system_note e.0 ≡ false) × (taken_to (core_told o T).system ≡ stable (core_told o T)) × (stable (core_told o (T ++ e ∷ [])) ≢ stable (core_told o T)))
   -- of any, where the store has failed
   pub behind_fault : Never (λ o T e. (has_failed o.old.vault.stopped (deeds_of (plain T)) ≡ true) × (stable (core_told o (T ++ e ∷ [])) ≢ stable (core_told o T)))
+  -- a frame that is taken, where what is flushed changes; a flush, where the system does, or in a deed's entry; a copy of another region than it names
+  pub taken : Never (λ o T e. (e.1.0 ≡ Took) × (stable (core_told o (T ++ e ∷ [])) ≢ stable (core_told o T)))
+  pub flushed : Never (λ o T e. (e.1.0 ≡ Flushed) × ((core_told o (T ++ e ∷ [])).system ≢ (core_told o T).system))
+  pub besides : (x : Deed) (c i : ℕ) → Never (λ o T e. (e.1.0 ≡ Did x c) × (slice_get e.1.2 i ≡ Some (Does Flushes)))
+  pub copied : (r q n i : ℕ) → Never (λ o T e. (e.1.0 ≡ Copied r) × (slice_get e.1.2 i ≡ Some (Copies q n)) × ((q == r) ≡ false))
   -- a stop by the store that leaves the vault running, one that leaves the engine running, and a second one
   pub no_fault : (c : ℕ) → Never (λ o T e. (e.1.0 ≡ Did (Meets StoreFailed) c) × ((core_told o (T ++ e ∷ [])).vault.stopped ≡ false))
   pub no_stop : (c : ℕ) → Never (λ o T e. (e.1.0 ≡ Did (Meets StoreFailed) c) × ((core_told o (T ++ e ∷ [])).system.stop ≡ None))
@@ -145,11 +156,12 @@ pub record Unstored : Type 0 where
 
 -- ---- what no entry tells
 pub record Untold : Type 0 where
-  -- a stray write, a stop of the vault, an anchor that moves
+  -- a stray write, a stop of the vault, an anchor that moves, a flush
   pub poke : (r : ℕ) (g h : RegionState)
       → Nowhere (λ o T. (slice_get o.old.regions r ≡ Some g) × (slice_get (core_told o T).regions r ≡ Some h) × (h.stray ≢ stray_after r g.stray (deeds_of (plain T))))
   pub fault : Nowhere (λ o T. ((core_told o T).vault.stopped ≡ true) × (has_failed o.old.vault.stopped (deeds_of (plain T)) ≡ false))
   pub turn : Nowhere (λ o T. ((n c : ℕ) → Contains (deeds_of (plain T)) (MovesAnchor n, c) → ⊥) × ((core_told o T).vault.current ≢ o.old.vault.current))
+  pub flush : Nowhere (λ o T. ((i : ℕ) (ks : List ℕ) → At (plain T) i (ks, Flushed) → ⊥) × (stable (core_told o T) ≢ stable o.old))
   -- a client that was answered ok to a commit of which no record is flushed
   pub commit : (s : Standing) (o : Outset) (T : History) → ClientTold o s T → Contains s.lines CommitOk
       → ((t n : ℕ) → Contains (own_deeds (world_told o T) s.client) (n, Logs (Commit t)) → stable (core_told o T) ≤ n) → ⊥

@@ -2,9 +2,9 @@
 ghost use Rattle.dali_concurrent.specs.Copying.{StartsLand, FinishesLand, KeepsLand, CopiesLand, SkipsLand, WritesHeadLand, SyncsLand, TurnsLand};
 ghost use Rattle.dali_concurrent.specs.Copying.{CopyFailsLand, HeadFailsLand, SyncFailsLand, TurnFailsLand};
 ghost use Rattle.dali_concurrent.specs.Stages.{StageGoes, StageStands, StageBegins, StageStays, StageTurns};
-ghost use Rattle.dali_concurrent.specs.Calls.{AtMeets, FilesHold, HeldWhile, HeldFaults, FlushStays, HeaderHolds, TableHolds, SyncHolds, TurnHolds};
+ghost use Rattle.dali_concurrent.specs.Calls.{AtMeets, FilesHold, HeaderHolds, TableHolds, SyncHolds, TurnHolds};
 ghost use Rattle.dali_concurrent.specs.Calls.{HeadFaultHolds, SyncFaultHolds, TurnFaultHolds, RunBegins, RunMeets, RunCopies, RunEnds, RunFaultHolds};
-ghost use Rattle.dali_concurrent.specs.Checking.{StageSees, CalmSees, AtSees};
+ghost use Rattle.dali_concurrent.specs.Checking.{StageSees, CalmSees};
 ghost use Rattle.dali_concurrent.specs.CallMoments.{FlushAdds, WriteAdds, RunAdds, SyncAdds, TurnAdds};
 
 use dali_store::Store;
@@ -42,12 +42,10 @@ pub fn a_checkpoint_is_as_far_as_the_history_tells()
 {}
 
 /// The vault is where the history has come to, and what is read of the next image is as far as the checkpoint's stage tells, behind
-/// each call of a checkpoint, whatever others do between: entries that call no store, and the vault's own flushes.
+/// each call of a checkpoint, whatever others do between.
 pub fn the_vault_keeps_the_next_image<V: Store>()
     ensures meets { AtMeets V.Store }
     ensures files { FilesHold V.Store }
-    ensures held { HeldWhile V.Store }
-    ensures flush { FlushStays V.Store }
     ensures header { HeaderHolds V.Store }
     ensures table { TableHolds V.Store }
     ensures synced { SyncHolds V.Store }
@@ -59,7 +57,6 @@ pub fn the_vault_is_there_behind_a_fault<V: Store>()
     ensures head { HeadFaultHolds V.Store }
     ensures sync { SyncFaultHolds V.Store }
     ensures turn { TurnFaultHolds V.Store }
-    ensures held { HeldFaults V.Store }
 {}
 
 /// Who holds the vault copies the next regions one by one, under the lock of each, and writes their words later by one call: the
@@ -83,9 +80,8 @@ pub fn a_crash_inside_a_call_is_right<V: Store>()
 {}
 
 /// Where only the client whose checkpoint is under way makes steps of one, entries of others leave it under way and as far as it was;
-/// those that the vault's note hasn't signed leave the vault where the history has come to, and may stand inside a run of copies.
-pub fn others_leave_a_checkpoint<V: Store>()
+/// those that the vault's note hasn't signed either may stand inside a run of copies.
+pub fn others_leave_a_checkpoint()
     ensures stage { StageSees }
     ensures calm { CalmSees }
-    ensures vault { AtSees V.Store }
 {}

@@ -10,17 +10,17 @@ ghost use Rattle.dali_concurrent.specs.Holds.{HoldsAreTold, HoldIsOfActor, NoneI
 ghost use Rattle.dali_concurrent.specs.Holds.{NextIsFresh, NextMayBegin, ActorStays, LookStays};
 ghost use Rattle.dali_concurrent.specs.Locking.{LocksAreTold, YieldsRight, FindsDeadRight};
 ghost use Rattle.dali_concurrent.specs.Clients.{ClientMeets};
-ghost use Rattle.dali_concurrent.specs.Amid.{OwnHoldIsSeen, NoneLiveIsSeen, OwnHoldStays, OthersLog, DeadIsSeen, FreedStaysFree};
+ghost use Rattle.dali_concurrent.specs.Amid.{OwnHoldIsSeen, NoneLiveIsSeen, OwnHoldStays, HeldRegionStays, OthersLog, OthersLeaveBe, DeadIsSeen, FreedStaysFree};
 ghost use Rattle.dali_concurrent.specs.Closed.{RoundStands, NoneHolds};
 ghost use Rattle.dali_concurrent.specs.Round.{RoundIsDone, RoundIsCut};
-ghost use Rattle.dali_concurrent.specs.Stored.{VaultMeets, NoneInHandMeets, FlushHolds, FaultHolds, HandsOut};
+ghost use Rattle.dali_concurrent.specs.Calls.{FlushHolds, FaultHolds};
+ghost use Rattle.dali_concurrent.specs.Stored.{VaultMeets, NoneInHandMeets, HandsOut};
 ghost use Rattle.dali_concurrent.specs.Starts.{RoundStarts, VaultStarts};
 ghost use Rattle.dali_concurrent.specs.Moments.{MomentsBegin, MomentsGoOn, MomentsMeet, CallAdds, FlushLeavesRight, HistoryLeavesRight};
 ghost use Rattle.dali_concurrent.specs.Finish.{NotesFinish};
 ghost use Rattle.dali_concurrent.specs.Audits.{PassesAreLines, PassFitsHere, PassesLand, AuditEndsLand, BeganIsHere};
 ghost use Rattle.dali_concurrent.specs.Audits.{AuditOpens, AuditStaysOpen, OpenUntilPassed, OpenUntilItsEnd};
 ghost use Rattle.dali_concurrent.specs.Leads.{OutsetBegins, RoundIsLed};
-ghost use Rattle.dali_concurrent.specs.Same.{IsSameRound};
 
 use dali_store::Store;
 
@@ -125,9 +125,16 @@ pub fn a_client_amid_a_call_may_rely_on_its_own()
     ensures hold { OwnHoldIsSeen }
     ensures none { NoneLiveIsSeen }
     ensures stays { OwnHoldStays }
+    ensures region { HeldRegionStays }
     ensures others { OthersLog }
     ensures dead { DeadIsSeen }
     ensures freed { FreedStaysFree }
+{}
+
+/// What others leave of the core to a transaction that it acts for: what `dali_calls` asks of steps between two of a call's own. So a
+/// plan stands where it stood, and its client may call where it might.
+pub fn others_leave_its_transaction_be()
+    ensures { OthersLeaveBe }
 {}
 
 /// Once every note has seen all of its own entries the values stand behind a run, whole; no client that is alive has latched a
@@ -148,7 +155,8 @@ pub fn the_notes_finish()
     ensures { NotesFinish }
 {}
 
-/// The vault is where the history has come to: at the start, behind entries of others, and behind calls of its own.
+/// The vault is where the history has come to, and what is read of the next image is as far as the checkpoint's stage tells: at the
+/// start, behind entries of others, and behind its own flush or a fault in one.
 pub fn the_vault_is_where_the_history_is<V: Store>()
     ensures starts { VaultStarts V.Store }
     ensures meets { VaultMeets V.Store }
@@ -157,7 +165,7 @@ pub fn the_vault_is_where_the_history_is<V: Store>()
     ensures fault { FaultHolds V.Store }
 {}
 
-/// A closed round hands out a core that stands, with its image files.
+/// A closed round hands out a core that stands, with its image files while the vault runs.
 pub fn a_closed_round_hands_out_its_core<V: Store>()
     ensures { HandsOut V.Store }
 {}
@@ -178,9 +186,4 @@ pub fn a_crash_at_any_moment_is_right<V: Store>()
 pub fn a_round_in_threads_is_a_round<V: Store>()
     ensures begins { OutsetBegins V.Store }
     ensures leads { RoundIsLed V.Store }
-{}
-
-/// So it does what the round of one thread promises.
-pub fn a_round_in_threads_is_that_of_one<V: Store>()
-    ensures { IsSameRound V.Store }
 {}

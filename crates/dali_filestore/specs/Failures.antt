@@ -3,7 +3,8 @@
 --     cause_of_kind kind        by its kind, where that tells something
 --     cause_of_number number    else by its number
 --     file_in failure           the file that a failure names
-use Rattle.std.specs.Prelude.{ℤ, pos, Option, Some, None, if◌then◌else◌}
+--     segment_in failure        the segment that a failure names, but the first
+use Rattle.std.specs.Prelude.{ℕ, ℤ, pos, Option, Some, None, if◌then◌else◌}
 use Rattle.std.specs.Ordering.{int_eq}
 use Rattle.std.specs.IoError.{error_kind, raw_os_error}
 use Rattle.std.specs.declared.io.Error.{Error}
@@ -13,7 +14,7 @@ use Rattle.dali_store.specs.declared.store.FileName.{FileName}
 use Rattle.dali_filestore.specs.declared.failure.Cause.{Cause}
 use Rattle.dali_filestore.specs.declared.failure.Cause.TheVariants as causes
 use Rattle.dali_filestore.specs.declared.failure.Failure.{Failure}
-use Rattle.dali_filestore.specs.declared.failure.Failure.TheVariants.{InUse, LogMissing, ReadingAlone, Folder, File}
+use Rattle.dali_filestore.specs.declared.failure.Failure.TheVariants.{InUse, LogMissing, ReadingAlone, Folder, File, Segment}
 
 abbrev pub cause_of_kind : ErrorKind → Option Cause
 cause_of_kind kinds.NotFound = Some causes.NotFound
@@ -53,3 +54,12 @@ file_in InUse = None
 file_in LogMissing = None
 file_in ReadingAlone = None
 file_in (Folder what) = None
+file_in (Segment number what) = None
+
+abbrev pub segment_in : Failure → Option ℕ
+segment_in (Segment number what) = Some number
+segment_in (File file what) = None
+segment_in InUse = None
+segment_in LogMissing = None
+segment_in ReadingAlone = None
+segment_in (Folder what) = None

@@ -3,3 +3,4 @@ pub mod Failures
 pub mod Folder
 pub mod Guards
 pub mod Images
+pub mod Segments

@@ -104,6 +104,14 @@ pub enum Failure {
         /// What happened.
         cause: Cause,
     },
+    /// A call on a segment of the log failed, but the first one, which is the file of the log.
+    #[error("dali.log.{number}: {cause}")]
+    Segment {
+        /// Its number.
+        number: u32,
+        /// What happened.
+        cause: Cause,
+    },
 }
 
 // The cause that a kind of error tells, where it tells one.

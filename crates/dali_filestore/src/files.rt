@@ -52,7 +52,7 @@ pub(crate) fn failure_at(file: FileName, error: io::Error) -> Failure
 }
 
 // The length of a file, if it is below the limit.
-fn length_of<F: OpenFile>(file: &F) -> io::Result<u64>
+pub(crate) fn length_of<F: OpenFile>(file: &F) -> io::Result<u64>
     ensures { IfOk result (λ n. n < 2 ^ 62) }
 {
     let length = file.metadata()?.len();
@@ -148,6 +148,20 @@ impl<F: OpenFile + FileExt + Drop> FourFiles<F> {
             return Err(absent(file));
         };
         match found.sync_data() {
+            Ok(()) => Ok(()),
+            Err(error) => Err(failure_at(file, error)),
+        }
+    }
+
+    // Cuts the length of a file to 0.
+    pub(crate) fn empty(&self, file: FileName) -> Result<(), Failure>
+        ensures absent { IsNone (opened file self.now) → IsErr result }
+        ensures named { IfErr result (λ failure. file_in failure ≡ Some file) }
+    {
+        let Some(found) = self.file(file) else {
+            return Err(absent(file));
+        };
+        match found.set_len(0) {
             Ok(()) => Ok(()),
             Err(error) => Err(failure_at(file, error)),
         }

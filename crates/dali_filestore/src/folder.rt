@@ -19,10 +19,10 @@ use std::os::unix::fs::FileExt;
 use std::rt::Files;
 
 // No path is longer.
-const PATH_MAX: usize = 4096;
+pub(crate) const PATH_MAX: usize = 4096;
 
 // The first descriptor that is no standard stream's.
-const FIRST_FREE: RawFd = 3;
+pub(crate) const FIRST_FREE: RawFd = 3;
 
 // An open gate of the anchor: a checkpoint was completed.
 const OPEN_GATE: u8 = 0xA5;
@@ -132,7 +132,7 @@ fn find_folder<R: Files>(rt: &R, folder: &str) -> Result<(), Failure> {
 }
 
 // Makes it last that the files stand in the folder.
-fn sync_folder<R: Files>(rt: &R, folder: &str) -> Result<(), Failure> {
+pub(crate) fn sync_folder<R: Files>(rt: &R, folder: &str) -> Result<(), Failure> {
     match fs::open(rt, folder) {
         Ok(opened) => match opened.sync_all() {
             Ok(()) => Ok(()),

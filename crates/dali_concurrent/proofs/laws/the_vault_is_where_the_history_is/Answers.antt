@@ -1,5 +1,6 @@
 use Rattle.dali_concurrent.proofs.Starts.{vault_starts}
-use Rattle.dali_concurrent.proofs.Stored.{vault_meets, none_in_hand_meets, flush_holds, fault_holds}
+use Rattle.dali_concurrent.proofs.Calls.{flush_holds, fault_holds}
+use Rattle.dali_concurrent.proofs.Stored.{vault_meets, none_in_hand_meets}
 use Rattle.dali_concurrent.proofs.laws.the_vault_is_where_the_history_is.Goals as goal
 
 pub returns : goal.returns

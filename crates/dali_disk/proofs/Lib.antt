@@ -1,0 +1,3 @@
+mod Mix
+pub mod Images
+mod Copies

@@ -1,0 +1,6 @@
+mod Walks
+mod Results
+mod Shelves
+mod Keys
+mod Crashes
+mod Events
