@@ -1,5 +1,5 @@
 -- What others leave of a region of which a client amid a call has the live hold.
-use Rattle.std.proofs.Common.{◌≡◌, ℕ, zero, suc, Bool, true, false, List, [], ◌∷◌, ◌++◌, length, Option, Some, None, refl, ap, sym, subst, ◌∙◌, arith}
+use Rattle.std.proofs.Common.{◌≡◌, ℕ, zero, suc, Bool, true, false, List, [], ◌∷◌, ◌++◌, length, Option, Some, None, refl, ap, sym, subst, ◌∙◌, inl, inr, arith}
 use Rattle.std.specs.Prelude.{slice_get, slice_set, ◌==◌, ◌&&◌, if◌then◌else◌}
 use Rattle.std.specs.List.{list_all}
 use Rattle.std.proofs.lemmas.List.{append-nil, append_assoc}
@@ -14,7 +14,7 @@ use Rattle.dali_region.specs.State.{RegionState, touched, checked, dead, taken_b
 use Rattle.dali_region.specs.Answers.{cleaned}
 use Rattle.dali_runs.specs.State.{CoreState}
 use Rattle.dali_runs.specs.Run.{Bases}
-use Rattle.dali_runs.specs.Regions.{RegionStep, Check, Clean, region_after}
+use Rattle.dali_runs.specs.Regions.{RegionStep, Poke, Check, Clean, region_after}
 use Rattle.dali_runs.specs.Courses.{Step, Operates, TakesBack, Frees, OnRegion, Passes, Dies, Recovers}
 use Rattle.dali_runs.specs.Parts.Regions.{WhereHere, IsRegionStep}
 use Rattle.dali_runs.proofs.PartsLemmas.Regions.{regions_leave, step_has_region}
@@ -26,7 +26,7 @@ use Rattle.dali_concurrent.specs.Told.{Line, History, plain, plain_one, core_tol
 use Rattle.dali_concurrent.specs.Landing.{BeginsAt}
 use Rattle.dali_concurrent.specs.Sorts.{after_one, after_all}
 use Rattle.dali_concurrent.specs.Kept.{wants, is_outside, writes_to, is_wanted, Follows, AllFollow}
-use Rattle.dali_concurrent.specs.Amid.{HeldRegionStays}
+use Rattle.dali_concurrent.specs.Amid.{IsOfOthers, HeldRegionStays}
 use Rattle.dali_concurrent.proofs.Lists.{take_length, each_front}
 use Rattle.dali_concurrent.proofs.Entries.{not_signed}
 use Rattle.dali_concurrent.proofs.Told.{plain-append}
@@ -155,7 +155,20 @@ module _ (bases : Bases) (p : Point) (o : Outset) (r t c : ℕ) (begins : Begins
       (further g (slice_get (core_told o (A ++ e ∷ [])).regions r) (slice_get (core_told o ((A ++ e ∷ []) ++ R)).regions r) first.1
       (λ h there. along R (A ++ e ∷ []) all_on (λ x w. none x (suc w.0, w.1)) first.0 h there))
 
+of_others : (x : RegionStep) → is_outside x ≡ true → IsOfOthers x
+of_others (Poke word mask) h = inl (word, mask, refl)
+of_others Check h = inr (inl refl)
+of_others (Clean side) h = inr (inr (side, refl))
+of_others x h = absurd (cc)
+
+all_of_others : (xs : List RegionStep) → list_all is_outside xs ≡ true → (i : ℕ) (x : RegionStep) → slice_get xs i ≡ Some x → IsOfOthers x
+all_of_others [] h i x e = absurd (cc)
+all_of_others (y ∷ xs) h zero x e = subst IsOfOthers (some_same e) (of_others y (and_parts (is_outside y) (list_all is_outside xs) h).0)
+all_of_others (y ∷ xs) h (suc i) x e = all_of_others xs (and_parts (is_outside y) (list_all is_outside xs) h).1 i x e
+
 pub held_region_stays : HeldRegionStays
 held_region_stays bases p o r t c seen new led is live g at =
+    let w : Outside g (slice_get (core_told o new).regions r) =
     subst (λ (Z : History). Outside g (slice_get (core_told o Z).regions r)) (sym is.all)
-    (along bases p o r t c led.begins is.rest seen (subst (AllFollow bases p o) is.all led.all) is.none live g at)
+    (along bases p o r t c led.begins is.rest seen (subst (AllFollow bases p o) is.all led.all) is.none live g at) in
+    (w.0, all_of_others w.0 w.1, w.2)

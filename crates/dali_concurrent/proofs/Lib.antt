@@ -38,4 +38,5 @@ pub mod Untold
 pub mod WrongRuns
 pub mod Wrong
 pub mod Worked
+pub mod Idle
 pub mod WorkedCheckpoint

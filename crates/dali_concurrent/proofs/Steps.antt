@@ -112,3 +112,36 @@ no_flushes (Copied r) xs none (n, inl fit) = same_steps is_flush xs (Copies r n 
 no_flushes (Copied r) xs none (n, inr fit) = same_steps is_flush xs (Skips r n ∷ []) fit refl
 no_flushes Wrote xs none (inl fit) = same_steps is_flush xs (Syncs ∷ []) fit refl
 no_flushes Wrote xs none (inr (h, fit)) = same_steps is_flush xs (WritesHead h ∷ []) fit refl
+
+-- ---- heads that are kept
+abbrev pub is_keep : StoreStep → Bool
+is_keep Keeps = true
+is_keep x = false
+
+abbrev pub is_keeping : Entry → Bool
+is_keeping Kept = true
+is_keeping e = false
+
+unnamed_keep : (x : StoreStep) → is_named x ≡ false → is_keep x ≡ false
+unnamed_keep Keeps h = absurd (cc)
+unnamed_keep x h = refl
+
+on_no_keep : (r : ℕ) (x : StoreStep) → is_step_on r x ≡ true → is_keep x ≡ false
+on_no_keep r Keeps h = absurd (cc)
+on_no_keep r x h = refl
+
+pub no_keeps : (e : Entry) (xs : List StoreStep) → is_keeping e ≡ false → StepsFit e xs → list_any is_keep xs ≡ false
+no_keeps (Did (GetsLock t k m) c) xs none fit = same_steps is_keep xs (Does (Locks t k m) ∷ []) fit refl
+no_keeps (Did x c) xs none fit = none_too is_named is_keep unnamed_keep xs fit
+no_keeps (Latched r t c) xs none fit = all_apart (is_step_on r) is_keep (on_no_keep r) xs fit
+no_keeps (Updated r c) xs none fit = all_apart (is_step_on r) is_keep (on_no_keep r) xs fit
+no_keeps (Freed r c) xs none (inl fit) = all_apart (is_step_on r) is_keep (on_no_keep r) xs fit
+no_keeps (Freed r c) xs none (inr fit) = same_steps is_keep xs (Does (Recovers r) ∷ []) fit refl
+no_keeps (Passed r b right) xs none fit = same_steps is_keep xs (Does (Passes b r) ∷ []) fit refl
+no_keeps Took xs none fit = same_steps is_keep xs (Does Takes ∷ []) fit refl
+no_keeps Flushed xs none fit = same_steps is_keep xs (Does Flushes ∷ []) fit refl
+no_keeps Kept xs none fit = absurd (cc)
+no_keeps (Copied r) xs none (n, inl fit) = same_steps is_keep xs (Copies r n ∷ []) fit refl
+no_keeps (Copied r) xs none (n, inr fit) = same_steps is_keep xs (Skips r n ∷ []) fit refl
+no_keeps Wrote xs none (inl fit) = same_steps is_keep xs (Syncs ∷ []) fit refl
+no_keeps Wrote xs none (inr (h, fit)) = same_steps is_keep xs (WritesHead h ∷ []) fit refl

@@ -422,6 +422,7 @@ pub worked_checkpoint : WorkedCheckpoint
 worked_checkpoint = record {
   all = went_20;
   log = refl;
+  ready = record { image = image; stage = refl; header = refl; head = refl; synced = refl; clean = refl; flushed = omega arith };
   current = refl;
   over = refl;
 }

@@ -21,7 +21,7 @@ use Rattle.dali_transcripts.specs.World.{Deed, Logs, Strays, DiesOn, GivesBack, 
 use Rattle.dali_transcripts.specs.Rounds.{is_on}
 use Rattle.dali_transcripts.specs.Touches.{touches, is_at}
 use Rattle.dali_notes.specs.History.{signs}
-use Rattle.dali_concurrent.specs.Entries.{Mark, Does, Latches, Entry, Did, Latched, Updated, Freed, live_by, Passed, Flushed, system_note, vault_note, region_note, client_note, region_of, note_in, values_of, notes_of, done_by, done_in, on_in}
+use Rattle.dali_concurrent.specs.Entries.{Mark, Does, Latches, Entry, Did, Latched, Updated, Freed, live_by, Passed, Flushed, system_note, vault_note, region_note, client_note, region_of, note_in, values_of, notes_of, done_by, done_in, on_in, actor_by}
 use Rattle.dali_concurrent.specs.Rules.{Outset, count_of, LookFits, DeedFits, LatchFits, UpdateFits, FreeFits, PassFits, EntryFits, live_in, dead_in, dead_by}
 use Rattle.dali_concurrent.specs.Told.{Effect, Leaves, OnRegion, OnSystem, OnVault, OnBoth, OnStop, EffectFits, effect_on, Line, History, plain, plain_one, core_told}
 use Rattle.dali_concurrent.specs.Kept.{txn_in, HoldIs, Follows, AllFollow}
@@ -220,6 +220,9 @@ unlatched = record {
       not_both_ways (subst (λ n. (c == n) ≡ true) (ap (λ (z : ℕ × ℕ). z.1) same) (eqb-self c)) w.2;
   freed_by_another = λ r c t d bases p o T e led w f.
       let fits : FreeFits o (plain T) r c = entry_fits bases p o T e f (Freed r c) w.0 in freed_by bases p o T led r c t d fits w.1 w.2;
+  dead_freed_by_another = λ r c t bases p o T e led w f.
+      let fits : FreeFits o (plain T) r c = entry_fits bases p o T e f (Freed r c) w.0 in
+      ⊎_elim (λ live. w.3 fits.txn live) (λ dead. w.2 (subst (λ u. actor_by u (plain T) ≡ Some c) (some_same (sym dead ∙ w.1)) fits.acts)) fits.held;
   back_unheld = λ t c b bases p o T e led w f. let fits : DeedFits o (plain T) (Logs (Back t b)) c = entry_fits bases p o T e f (Did (Logs (Back t b)) c) w.0 in w.1 fits.held;
   solo_unheld = λ n t c b bases p o T e led w f. let fits : DeedFits o (plain T) (Logs (Solo n t b)) c = entry_fits bases p o T e f (Did (Logs (Solo n t b)) c) w.0 in w.1 fits.held;
   given_unheld = λ t r c bases p o T e led w f. let fits : DeedFits o (plain T) (GivesBack t (Some r)) c = entry_fits bases p o T e f (Did (GivesBack t (Some r)) c) w.0 in w.1 fits.held;

@@ -26,4 +26,5 @@ pub mod Audits
 pub mod Leads
 pub mod Wrong
 pub mod Worked
+pub mod Idle
 pub mod WorkedCheckpoint

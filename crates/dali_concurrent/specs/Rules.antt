@@ -12,8 +12,9 @@
 --     AuditFits o P c b found  its end may follow, which names these regions: it has passed each region, and found these damaged
 --     HoldFits o P x c         what a deed on a region is done under: the client's live hold, for the deed's transaction, or a dead one that it leaves
 --     DeedFits o P x c         what a deed asks for
---     LatchFits, FreeFits, PassFits    what the other entries ask for
---     Fits o P p               the entry p may follow these entries
+--     LatchFits, UpdateFits, FreeFits, PassFits    what the other entries ask for
+--     EntryFits o P e          what the entry e asks for
+--     Fits o P p               so it is of the entry p, and its notes have signed it
 --     AllFit o H               so may each of these entries
 use Rattle.std.specs.Prelude.{◌≡◌, ◌⊎◌, ℕ, ◌<◌, Bool, true, false, List, [], ◌∷◌, ◌++◌, if◌then◌else◌, ◌==◌, not, Option, Some, None, fold, slice_get, take, length}
 use Rattle.dali_geometry.specs.Places.{regions}

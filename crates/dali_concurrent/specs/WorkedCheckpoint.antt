@@ -24,6 +24,7 @@ use Rattle.dali_concurrent.specs.Rules.{log_by}
 use Rattle.dali_concurrent.specs.Told.{Leaves, OnRegion, OnSystem, OnVault, Line, History, plain, core_told}
 use Rattle.dali_concurrent.specs.Stages.{Image}
 use Rattle.dali_concurrent.specs.Kept.{AllFollow}
+use Rattle.dali_concurrent.specs.Calls.{IsReady}
 use Rattle.dali_concurrent.specs.Worked.{worked_bases, from, outset, index_words, heap_words, y1, t1}
 
 -- ---- the values
@@ -194,6 +195,8 @@ u20 = u19 ++ ends ∷ []
 pub record WorkedCheckpoint : Type 0 where
   pub all : AllFollow worked_bases from outset u20
   pub log : log_by outset (plain u20) ≡ Format 1 1 ∷ Begin 1 ∷ AuditBegin ∷ Commit 1 ∷ AuditClean 2 ∷ []
+  -- where it moves, image and audit are as they have to be
+  pub ready : IsReady outset u18 head 2 4
   -- the anchor has moved, and the checkpoint is over
   pub current : (core_told outset u20).vault.current ≡ 1
   pub over : under_way (deeds_of (plain u20)) ≡ None

@@ -1,0 +1,95 @@
+use Rattle.std.proofs.Common.{◌≡◌, ℕ, true, false, [], ◌∷◌, Option, Some, None, refl, sym, ap, subst, ◌∙◌}
+use Rattle.std.specs.Prelude.{◌==◌}
+use Rattle.std.specs.FinMap as map
+use Rattle.dali_geometry.specs.Places.{regions}
+use Rattle.dali_lists.proofs.Numbers.{eqb-self}
+use Rattle.dali_record.specs.declared.records.Answer.{Answer}
+use Rattle.dali_record.specs.declared.records.Record.{Record}
+use Rattle.dali_record.specs.declared.records.Record.TheVariants.{Begin, Done, Commit, Ended, AuditBegin}
+use Rattle.dali_locks.specs.declared.mode.LockAnswer.TheVariants.{Granted, Busy}
+use Rattle.dali_locks.specs.Locks.{IsAnswer}
+use Rattle.dali_att.specs.declared.state.State.TheVariants.{Live, Dead, Cleaning as Claimed}
+use Rattle.dali_runs.specs.State.{SystemState, state_of}
+use Rattle.dali_runs.specs.Steps.{begun, done_logged, commit_logged, ended_logged, audit_begun, audit_ended, audit_record, in_state, in_checkpoint, granted, refused}
+use Rattle.dali_runs.specs.Courses.{Begins, Answers, Commits, Ends, AuditBegins, AuditEnds, Claims as ClaimsIt, GivesBack as GivesItBack, Locks, Refuses}
+use Rattle.dali_crash.specs.Checkpoints.{StoreStep, Does, Starts, Finishes}
+use Rattle.dali_crash.specs.Traces.{bases_of}
+use Rattle.dali_system.specs.Served.{Served}
+use Rattle.dali_transcripts.specs.Words.{StoppedBy, UnderWay}
+use Rattle.dali_transcripts.specs.World.{Deed, Logs, Claims, GivesBack, GetsLock, StartsCheckpoint, EndsCheckpoint, Meets, is_dead_in}
+use Rattle.dali_transcripts.specs.Telling.Deeds.{refusal_at}
+use Rattle.dali_audit.specs.Findings.{Judged, Audited, damaged}
+use Rattle.dali_calls.specs.Steps.{call_key, answer_of}
+use Rattle.dali_calls.specs.Plans.{Planned, mode_of, answered}
+use Rattle.dali_notes.specs.History.{MayAdd, Added, Sight}
+use Rattle.dali_concurrent.specs.Entries.{Did}
+use Rattle.dali_concurrent.specs.Told.{Leaves, OnSystem, Item}
+use Rattle.dali_concurrent.specs.Own.{HasOnly}
+use Rattle.dali_locked.specs.Begun.{Begun, may_add, outset, FromEach, Of}
+use Rattle.dali_locked.specs.Sights.{ClientSight, HasLogged, Knows}
+use Rattle.dali_locked.specs.SystemSteps.{Resting, Driving, Asking, GoesOn, Keeps, Takes, TakesClaim, LetsGo, LetsClaim, Settling, MayEnd, HasGone, Auditing, PassesTold, Cleaning, MayGiveBack, NotChecking, Checking, HasJust, given_in, given as given_by, deed_of}
+use Rattle.dali_locked.proofs.SystemTelling.{Hands, may_tell, known, client_kept, system_kept, system_met, met, met_kept, has_still, has_begun, has_ended, has_claimed, has_let, logged_there}
+use Rattle.dali_locked.proofs.SystemCases.{done_line, done_rests, commit_line, commit_settles, end_line, end_gone}
+use Rattle.dali_locked.proofs.SystemMore.{audit_room, claim_line, claim_cleans, start_line, start_checks, finish_line, finish_ends, meet_line, meet_still, stop_line, audit_line, audit_opened, audit_end_line, claimed_now, give_line, grant_line, grant_drives, busy_line, busy_rests}
+use Rattle.dali_locked.proofs.system.LockedSystem.ended.Given as given
+use Rattle.dali_locked.proofs.system.LockedSystem.ended.Goals as goal
+
+pub tell-requires-clause-may : goal.tell-requires-clause-may
+tell-requires-clause-may g c κs within =
+    let b = g.B.Beginning.begun in
+    let x = c.client.inside.note in
+    let y = c.self.inside.note in
+    let id : ℕ = c.client.inside.id in
+    let st : SystemState = c.self.inside.system.state in
+    let h : Hands b x y id st = record { client = c.client.invariant.1; system = c.self.invariant.1; led = c.client.invariant.2; told = c.self.invariant.3 } in
+    subst (λ (v : Served). MayAdd (may_add b) (x ∷ y ∷ []) (Did (Logs (Ended c.args.txn)) id, OnSystem v.state, Does (Ends c.args.txn) ∷ [])) (sym c.in_ok-receipt.ensures.ok)
+    (may_tell b x y id st h (Did (Logs (Ended c.args.txn)) id, OnSystem (ended_logged st c.args.txn), Does (Ends c.args.txn) ∷ []) (λ s p from now hand. end_line (bases_of s) p (outset b s p) b.count id x.seen st now hand c.args.txn (subst (λ (v : ClientSight). Knows b (MayEnd v.id c.args.txn) v) (sym c.client.view_is) c.requires.may s p from) c.in_ok-receipt.ensures.receipt.runs))
+
+module _ (g : given.Over) (c : goal.After-tell g) where
+  abbrev b : Begun
+  b = g.B.Beginning.begun
+
+  abbrev x : Sight Item
+  x = c.client.inside.note
+
+  abbrev y : Sight Item
+  y = c.self.inside.note
+
+  abbrev id : ℕ
+  id = c.client.inside.id
+
+  abbrev st : SystemState
+  st = c.self.inside.system.state
+
+  hands : Hands b x y id st
+  hands = record { client = c.client.invariant.1; system = c.self.invariant.1; led = c.client.invariant.2; told = c.self.invariant.3 }
+
+  added : Added (x ∷ y ∷ []) (Did (Logs (Ended c.args.txn)) id, OnSystem (ended_logged st c.args.txn), Does (Ends c.args.txn) ∷ []) c.tell.new.client.seen
+  added = subst (λ (v : Served). Added (x ∷ y ∷ []) (Did (Logs (Ended c.args.txn)) id, OnSystem v.state, Does (Ends c.args.txn) ∷ []) c.tell.new.client.seen) c.in_ok-receipt.ensures.ok c.tell.ensures.added
+
+pub invariant_of-self-2 : goal.invariant_of-self-2
+invariant_of-self-2 g c =
+    system_kept (b g c) (x g c) (y g c) (id g c) (st g c) (hands g c) c.tell.new.system (Did (Logs (Ended c.args.txn)) (id g c)) c.ended.new.self.state (Does (Ends c.args.txn) ∷ []) c.tell.new.client.seen
+    c.tell.ensures.system c.self.invariant.0 c.tell.ensures.added c.tell.ensures.all
+
+pub invariant_of-client : goal.invariant_of-client
+invariant_of-client g c = client_kept (b g c) (x g c) (y g c) (id g c) (st g c) (hands g c) c.tell.new.client c.tell.ensures.client c.client.invariant.0 c.tell.ensures.all
+
+pub returns-clause-gone : goal.returns-clause-gone
+returns-clause-gone g c =
+    subst (λ (v : ClientSight). Knows (b g c) (HasGone c.args.txn) (record { id = v.id; seen = c.tell.new.client.seen })) c.client.view_is
+    (known (b g c) (x g c) (y g c) (id g c) (st g c) (hands g c) (Did (Logs (Ended c.args.txn)) (id g c), OnSystem (ended_logged (st g c) c.args.txn), Does (Ends c.args.txn) ∷ []) c.tell.new.client.seen (added g c) c.tell.ensures.all (HasGone c.args.txn) (λ s p from now hand behind. end_gone (bases_of s) p (outset (b g c) s p) (b g c).count (id g c) (x g c).seen (st g c) now hand c.args.txn (subst (λ (v : ClientSight). Knows (b g c) (MayEnd v.id c.args.txn) v) (sym c.client.view_is) c.requires.may s p from) c.in_ok-receipt.ensures.receipt.runs))
+
+pub returns-clause-lets : goal.returns-clause-lets
+returns-clause-lets g c = (
+  subst (λ (v : ClientSight). LetsGo (b g c) v c.args.txn (record { id = v.id; seen = c.tell.new.client.seen })) c.client.view_is
+      (has_ended (b g c) (x g c) (y g c) (id g c) (st g c) (hands g c) (Logs (Ended c.args.txn)) (OnSystem c.ended.new.self.state) (Does (Ends c.args.txn) ∷ []) c.tell.new.client.seen c.tell.ensures.added c.tell.ensures.all c.args.txn refl),
+  subst (λ (v : ClientSight). LetsClaim (b g c) v c.args.txn (record { id = v.id; seen = c.tell.new.client.seen })) c.client.view_is
+      (has_let (b g c) (x g c) (y g c) (id g c) (st g c) (hands g c) (Logs (Ended c.args.txn)) (OnSystem c.ended.new.self.state) (Does (Ends c.args.txn) ∷ []) c.tell.new.client.seen c.tell.ensures.added c.tell.ensures.all c.args.txn (eqb-self c.args.txn)),
+)
+
+pub returns-clause-receipt : goal.returns-clause-receipt
+returns-clause-receipt g c =
+    subst (λ t. Knows (b g c) (HasLogged t (Ended c.args.txn)) (record { id = id g c; seen = c.tell.new.client.seen })) (sym c.in_ok-receipt.ensures.receipt.number)
+    (known (b g c) (x g c) (y g c) (id g c) (st g c) (hands g c) (Did (Logs (Ended c.args.txn)) (id g c), OnSystem c.ended.new.self.state, Does (Ends c.args.txn) ∷ []) c.tell.new.client.seen c.tell.ensures.added c.tell.ensures.all (HasLogged (st g c).records (Ended c.args.txn))
+    (λ s p from now hand behind. logged_there (bases_of s) p (outset (b g c) s p) (b g c).count (id g c) (x g c).seen (st g c) now hand _ (Ended c.args.txn) _ _))
