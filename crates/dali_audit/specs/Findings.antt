@@ -1,7 +1,8 @@
 -- What an audit has found so far.
 --     Audited                  what contracts see of an audit
 --     Judged                   what they see of a verdict
---     finding_of n             what a pass finds where the words differ from the codeword by the mask n
+--     finding_if right         what a pass finds, by whether the words had the parity of the codeword
+--     finding_of n             what it finds where the words differ from the codeword by the mask n
 --     damaged_from n fs        the numbers of the damaged ones, where these findings are those of the regions from n on
 --     damaged fs               the damaged regions, ascending
 --     AllPassed fs             each region was passed
@@ -19,8 +20,11 @@ pub record Judged : Type 0 where
   pub begin : ℕ
   pub failing : List ℕ
 
+abbrev pub finding_if : Bool → Finding
+finding_if right = if right then Clean else Damaged
+
 abbrev pub finding_of : ℕ → Finding
-finding_of n = if n == 0 then Clean else Damaged
+finding_of n = finding_if (n == 0)
 
 abbrev pub damaged_from : ℕ → List Finding → List ℕ
 damaged_from n [] = []

@@ -11,7 +11,7 @@ ghost use Rattle.dali_system.specs.Refused.{stop_refusal};
 ghost use Rattle.dali_system.specs.declared.error.SystemError.TheVariants.{OutOfMemory as Memory};
 ghost use Rattle.dali_audit.specs.declared.audit.Finding.TheVariants.{Waiting};
 ghost use Rattle.dali_audit.specs.Findings;
-ghost use Rattle.dali_audit.specs.Findings.{finding_of, damaged, damaged_from, AllPassed};
+ghost use Rattle.dali_audit.specs.Findings.{finding_of, finding_if, damaged, damaged_from, AllPassed};
 
 use dali_record::{Record, Regions};
 use dali_region::{Receipt, Region};
@@ -276,11 +276,21 @@ impl Audit {
         ensures found { self.new ≡ record self.old { findings = slice_set self.old.findings number (finding_of region.old.stray) } }
         ensures region { region.new ≡ checked region.old }
     {
-        let finding = match region.check() {
-            0 => Finding::Clean,
-            _ => Finding::Damaged,
+        let right = region.check() == 0;
+        self.found(number, right);
+    }
+
+    /// Takes over what a pass made elsewhere found of the region with this number: whether its words had the parity of its
+    /// codeword. It takes no memory.
+    pub fn found(&mut self, number: u32, right: bool)
+        requires { slice_get self.old.findings number ≡ Some Waiting }
+        ensures { self.new ≡ record self.old { findings = slice_set self.old.findings number (finding_if right) } }
+    {
+        self.findings[number as usize] = if right {
+            Finding::Clean
+        } else {
+            Finding::Damaged
         };
-        self.findings[number as usize] = finding;
     }
 
     /// Logs what was found: that all regions are clean, or which are not, and then the system stops. It takes memory for

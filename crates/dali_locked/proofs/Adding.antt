@@ -2,12 +2,13 @@
 use Rattle.std.proofs.Common.{◌≡◌, ℕ, zero, suc, ◌<◌, Bool, true, false, List, [], ◌∷◌, ◌++◌, Some, refl, ap, sym, subst, ◌∙◌}
 use Rattle.std.specs.Prelude.{slice_get, take}
 use Rattle.atomic_table.specs.Seated.{TableId}
-use Rattle.dali_crash.specs.Checkpoints.{Point}
+use Rattle.dali_runs.proofs.CountsLemmas.Lists.{some_same}
+use Rattle.dali_crash.specs.Checkpoints.{StoreStep, Point}
 use Rattle.dali_crash.specs.Traces.{Start, bases_of}
 use Rattle.dali_notes.specs.History.{IsSeen, Sight, AllSaw, AllMay, MayAdd, Added, signed_by}
 use Rattle.dali_concurrent.specs.Rules.{Outset, count_of}
 use Rattle.dali_concurrent.specs.Told.{Item, Line, History}
-use Rattle.dali_concurrent.specs.Kept.{Follows}
+use Rattle.dali_concurrent.specs.Kept.{Follows, is_silent}
 use Rattle.dali_concurrent.specs.Holds.{IsLed}
 use Rattle.dali_concurrent.proofs.Lists.{each_front}
 use Rattle.dali_locked.specs.Begun.{Begun, outset, FromEach, may_add, Led, LedFrom}
@@ -15,6 +16,11 @@ use Rattle.dali_locked.specs.Begun.{Begun, outset, FromEach, may_add, Led, LedFr
 -- a note of this table and number
 pub same_sight : (n : Sight Item) (t : TableId) (k : ℕ) → n.table ≡ t → n.number ≡ k → n ≡ record { table = t; number = k; seen = n.seen }
 same_sight n t k e f = λ i. record { table = e i; number = f i; seen = n.seen }
+
+-- an entry with one step that calls no store
+pub one_silent : (s : StoreStep) → is_silent s ≡ true → (i : ℕ) (x : StoreStep) → slice_get (s ∷ []) i ≡ Some x → is_silent x ≡ true
+one_silent s h zero x e = subst (λ z. is_silent z ≡ true) (some_same e) h
+one_silent s h (suc i) x e = absurd (cc)
 
 module _ (b : Begun) where
   -- a history that others may have led on

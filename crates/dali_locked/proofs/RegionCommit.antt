@@ -60,11 +60,9 @@ use Rattle.dali_locked.proofs.RegionSigns.{signs_three, signs_one_of_three, sign
 use Rattle.dali_locked.proofs.RegionLines.{hold_next}
 use Rattle.dali_locked.proofs.RegionMay.{own_hold}
 use Rattle.dali_locked.proofs.RegionAmid.{free_of}
+use Rattle.dali_locked.proofs.Adding.{one_silent}
 
 -- ---- a line of a client, the system and a region follows
-one_silent : (s : StoreStep) → is_silent s ≡ true → (i : ℕ) (x : StoreStep) → slice_get (s ∷ []) i ≡ Some x → is_silent x ≡ true
-one_silent s h zero x e = subst (λ z. is_silent z ≡ true) (some_same e) h
-one_silent s h (suc i) x e = absurd (cc)
 
 no_verdict_forward : (t : ℕ) (bl : Block) (b : ℕ) (found : List ℕ) → Logs (Forward t bl) ≡ Logs (audit_record b found) → ⊥
 no_verdict_forward t bl b [] e = cc

@@ -33,6 +33,7 @@ use Rattle.dali_locked.specs.Regions.{RegionKept, IsOpenAudit, HasPassed, pass_i
 use Rattle.dali_locked.proofs.RegionLines.{hold_next}
 use Rattle.dali_locked.proofs.RegionAdding.{led_on, seen_further, told_on, own_pass, passes_meet, passes_next, kept_behind}
 use Rattle.dali_locked.proofs.RegionOps.{uncounted, operation_stays, under_way_checked}
+use Rattle.dali_locked.proofs.Adding.{one_silent}
 
 -- behind what was seen it began there still
 began_on : (o : Outset) (P R : Entries) (c b : ℕ) → BeganAudit o P c b → BeganAudit o (P ++ R) c b
@@ -49,10 +50,6 @@ one_alone r q h = of (region_note r == region_note q) refl h
     of : (b : Bool) → (region_note r == region_note q) ≡ b → (b || false) ≡ true → r ≡ q
     of true e f = let same : region_note r ≡ region_note q = eqb-true (region_note r) (region_note q) e in omega (arith, same)
     of false e f = absurd (cc)
-
-one_silent : (s : StoreStep) → is_silent s ≡ true → (i : ℕ) (x : StoreStep) → slice_get (s ∷ []) i ≡ Some x → is_silent x ≡ true
-one_silent s h zero x e = subst (λ z. is_silent z ≡ true) (some_same e) h
-one_silent s h (suc i) x e = absurd (cc)
 
 module _ (bases : Bases) (p : Point) (o : Outset) (T : History) (b r : ℕ) (g : RegionState) (led : IsLed bases p o T) (told : RegionTold o r g T) (c : ℕ) (began : BeganAudit o (plain T) c b)
     (is_open : IsAuditing (core_told o T).system.sizes (log_by o (plain T)) b) (none : NotPassed (plain T) b r) where

@@ -16,6 +16,7 @@ use Rattle.dali_concurrent.specs.Rules.{Outset, count_of, DeedFits}
 use Rattle.dali_concurrent.specs.Told.{Effect, Leaves, OnSystem, EffectFits, History, plain, core_told}
 use Rattle.dali_concurrent.specs.Landing.{Lands}
 use Rattle.dali_concurrent.specs.Kept.{Follows, ChecksFit, StepsFit, is_silent, writes_to, is_wanted}
+use Rattle.dali_locked.proofs.Adding.{one_silent}
 
 -- who signs it
 abbrev pub by_both : ℕ → ℕ → List ℕ
@@ -36,13 +37,6 @@ second m k = more (m == k) (k == k) (eqb-self k)
     more true b e = refl
     more false true e = refl
     more false false e = absurd (cc)
-
-one_silent : (s : StoreStep) → is_silent s ≡ true → (i : ℕ) (x : StoreStep) → slice_get (s ∷ []) i ≡ Some x → is_silent x ≡ true
-one_silent s h zero x e = let same : s ≡ x = some e in subst (λ z. is_silent z ≡ true) same h
-  where
-    some : {X : Type 0} {a b : X} → Some a ≡ Some b → a ≡ b
-    some f = cc
-one_silent s h (suc i) x e = absurd (cc)
 
 module _ (bases : Bases) (p : Point) (o : Outset) (T : History) (n c : ℕ) (count : count_of o ≡ n) (d : Deed) (alone : values_of d ≡ system_note ∷ []) (fits : DeedFits o (plain T) d c) where
   by : (k : ℕ) → signs k (notes_of (count_of o) (Did d c)) ≡ true → signs k (by_both n c) ≡ true

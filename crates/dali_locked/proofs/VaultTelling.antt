@@ -41,7 +41,7 @@ use Rattle.dali_locked.proofs.Vaulting.{same_vault, frame_taken, moments_on, all
 
 -- ---- who signs
 -- no region signs with vault and system alone, nor with a client
-apart : (m r : ℕ) → (m ≡ region_note r → ⊥) → (m == region_note r) ≡ false
+pub apart : (m r : ℕ) → (m ≡ region_note r → ⊥) → (m == region_note r) ≡ false
 apart m r differs = ne_eqb m (region_note r) differs
 
 no_region_two : (r : ℕ) → signs (region_note r) (vault_note ∷ system_note ∷ []) ≡ false
@@ -52,7 +52,7 @@ no_region_two r =
 no_region_one : (r : ℕ) → signs (region_note r) (vault_note ∷ []) ≡ false
 no_region_one r = ap (λ b. b || false) (apart vault_note r (λ e. omega (arith, e)))
 
-no_region_three : (n c r : ℕ) → r < n → signs (region_note r) (client_note n c ∷ system_note ∷ vault_note ∷ []) ≡ false
+pub no_region_three : (n c r : ℕ) → r < n → signs (region_note r) (client_note n c ∷ system_note ∷ vault_note ∷ []) ≡ false
 no_region_three n c r below =
     ap (λ b. b || signs (region_note r) (system_note ∷ vault_note ∷ [])) (apart (client_note n c) r (λ e. omega (arith, e, below)))
     ∙ (ap (λ b. b || signs (region_note r) (vault_note ∷ [])) (apart system_note r (λ e. omega (arith, e)))
@@ -79,7 +79,7 @@ module _ (bases : Bases) (p : Point) (o : Outset) (T : History) where
   }
 
   -- an effect that leaves the same lands too
-  lands_as : (ks : List ℕ) (e : Entry) (f g : Effect) (xs : List StoreStep) → effect_on (core_told o T) f ≡ effect_on (core_told o T) g → Lands bases p o T (ks, (e, f, xs)) → Lands bases p o T (ks, (e, g, xs))
+  pub lands_as : (ks : List ℕ) (e : Entry) (f g : Effect) (xs : List StoreStep) → effect_on (core_told o T) f ≡ effect_on (core_told o T) g → Lands bases p o T (ks, (e, f, xs)) → Lands bases p o T (ks, (e, g, xs))
   lands_as ks e f g xs same lands q at =
       let l = lands q at in
       (l.0, record { course = l.1.course; core = l.1.core ∙ (told_push o T (ks, (e, f, xs)) ∙ (same ∙ sym (told_push o T (ks, (e, g, xs))))); goes = l.1.goes; halts = l.1.halts })
@@ -123,7 +123,7 @@ module _ (bases : Bases) (p : Point) (o : Outset) (T : History) where
       signs_last false = refl
 
 -- ---- notes
-follow_all : (b : Begun) (T : History) → AllMay (may_add b) T → (s : Start) (p : Point) → b.each s p → AllFollow (bases_of s) p (outset b s p) T
+pub follow_all : (b : Begun) (T : History) → AllMay (may_add b) T → (s : Start) (p : Point) → b.each s p → AllFollow (bases_of s) p (outset b s p) T
 follow_all b T may s p here i e at = may i e at s p here
 
 pub vault_note_on : (b : Begun) (a c : Sight Item) → IsVaultNote b a → c.table ≡ a.table → c.number ≡ a.number → AllMay (may_add b) c.seen → IsVaultNote b c

@@ -69,6 +69,9 @@ log_behind o S R =
     ∙ (ap (λ l. before o ++ l) (filter_map-append record_of (deeds_of (plain S)) (deeds_of (plain R)))
     ∙ sym (append_assoc (before o) (logged_by (deeds_of (plain S))) (logged_by (deeds_of (plain R))))))
 
+pub deeds_still : (S R : History) → deeds_of (plain R) ≡ [] → deeds_of (plain (S ++ R)) ≡ deeds_of (plain S)
+deeds_still S R none = ap deeds_of (map-append plain_one S R) ∙ (filter_map-append deed_in (plain S) (plain R) ∙ (ap (λ xs. deeds_of (plain S) ++ xs) none ∙ append-nil (deeds_of (plain S))))
+
 pub log_still : (o : Outset) (S R : History) → deeds_of (plain R) ≡ [] → log_by o (plain (S ++ R)) ≡ log_by o (plain S)
 log_still o S R none = log_behind o S R ∙ (ap (λ xs. log_by o (plain S) ++ logged_by xs) none ∙ append-nil (log_by o (plain S)))
 

@@ -1,6 +1,7 @@
 -- Where a round began, and its history.
 --     Begun                    its history's word, how many regions there are, whether a latch compares words with the codeword, and from which start a run
 --                              may have come to which point where the round began
+--     homed t b               the same, its history's word being t
 --     outset b s p             the outset there
 --     FromEach b P             so it is of each start and point
 --     Of b P T                 and so of each outset and of the history T
@@ -24,6 +25,9 @@ pub record Begun : Type 1 where
   pub precheck : Bool
   pub each : Start → Point → Type 0
 
+abbrev pub homed : TableId → Begun → Begun
+homed t b = record { table = t; count = b.count; precheck = b.precheck; each = b.each }
+
 abbrev pub outset : Begun → Start → Point → Outset
 outset b s p = outset_of b.precheck s p
 
@@ -36,9 +40,12 @@ Of b P T = FromEach b (λ s p. P (outset b s p) T)
 abbrev pub may_add : Begun → History → Line → Type 0
 may_add b T e = FromEach b (λ s p. Follows (bases_of s) p (outset b s p) T e)
 
-pub record LedFrom (b : Begun) (s : Start) (p : Point) (T : History) : Type 0 where
-  pub led : IsLed (bases_of s) p (outset b s p) T
-  pub count : count_of (outset b s p) ≡ b.count
+pub record LedAt (n : ℕ) (s : Start) (p : Point) (o : Outset) (T : History) : Type 0 where
+  pub led : IsLed (bases_of s) p o T
+  pub count : count_of o ≡ n
+
+abbrev pub LedFrom : Begun → Start → Point → History → Type 0
+LedFrom b s p T = LedAt b.count s p (outset b s p) T
 
 abbrev pub Led : Begun → History → Type 0
 Led b T = FromEach b (λ s p. LedFrom b s p T)

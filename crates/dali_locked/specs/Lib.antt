@@ -3,6 +3,12 @@ pub mod Sights
 pub mod Regions
 pub mod RegionWords
 pub mod Undoing
+pub mod Dying
 pub mod Beginnings
 pub mod SystemSteps
 pub mod Vaults
+pub mod HeadKept
+pub mod Unlocked
+pub mod Refusing
+pub mod Endings
+pub mod Locking

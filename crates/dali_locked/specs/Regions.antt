@@ -9,9 +9,11 @@
 --                              operation
 --     IsOpenAudit b            a client began the audit from record b, which is open;  HasPassed r b right  it has passed the region r
 --     stray_item ..            what each step tells
+--     is_unheld hold           no live hold stands on a region that has this one
+--     LogsPlan p y q z         the plan's operation is logged: the plan p and the system y have come to q and z
 --     LeftBy e A B             A where the system refuses, B where the transaction isn't there;  IfRefused e A  so it is of the cause
 --     HasGoneBack b x y p z w q     from the client x, the region y and the plan p on to z, w and q: an operation was taken back, since its record was refused
-use Rattle.std.specs.Prelude.{◌≡◌, ℕ, suc, ◌<◌, ◌&&◌, Bool, true, false, List, [], ◌∷◌, Option, Some, None, length, filter_map, slice_get, slice_index, slice_set, if◌then◌else◌}
+use Rattle.std.specs.Prelude.{◌≡◌, ℕ, suc, ◌<◌, ◌&&◌, Bool, true, false, List, [], ◌∷◌, Option, Some, None, IfSome, length, filter_map, slice_get, slice_index, slice_set, if◌then◌else◌}
 use Rattle.std.specs.Option.{option_map_or}
 use Rattle.atomic_table.specs.Seated.{TableId}
 use Rattle.dali_record.specs.declared.operations.Block.{Block}
@@ -23,12 +25,14 @@ use Rattle.dali_att.specs.declared.state.State.{State}
 use Rattle.dali_att.specs.declared.state.State.TheVariants.{Live}
 use Rattle.dali_runs.specs.State.{SystemState}
 use Rattle.dali_runs.specs.Steps.{op_logged, back_logged}
+use Rattle.dali_runs.specs.Keeps.{HasRoom}
 use Rattle.dali_runs.specs.Regions.{RegionStep, Latch, NoteReads, Update, TakeBack, Poke}
 use Rattle.dali_runs.specs.Courses.{Operates, TakesBack, Passes, OnRegion as StepsOn}
 use Rattle.dali_system.specs.declared.operation.Operation.{Operation}
+use Rattle.dali_system.specs.Served.{Served}
 use Rattle.dali_system.specs.UnderWay.{OneIsUnderWay}
 use Rattle.dali_calls.specs.Followed.{Follows as FollowsLog, HoldsCall}
-use Rattle.dali_calls.specs.Plans.{Planned, is_back, with_operation}
+use Rattle.dali_calls.specs.Plans.{Planned, is_back, went_back, with_operation, GoesOn}
 use Rattle.dali_crash.specs.Checkpoints.{Does}
 use Rattle.dali_transcripts.specs.World.{Logs, Strays}
 use Rattle.dali_notes.specs.History.{signs, Added}
@@ -137,6 +141,11 @@ logged_item c back t None y h = no_item
 logged_item c false t (Some o) y h = forward_item c t o.block (op_logged y t o.block) h
 logged_item c true t (Some o) y h = back_item c t o.block (back_logged y t o.block) h
 
+-- it is logged: the plan p and the system y have come to q and z
+pub record LogsPlan (p : Planned) (y : Served) (q : Planned) (z : Served) : Type 0 where
+  pub onward : is_back p ≡ false → IfSome p.operation (λ o. (z ≡ record y { state = op_logged y.state p.txn o.block }) × HasRoom y.state (Forward p.txn o.block) × GoesOn p o.block q)
+  pub back : is_back p ≡ true → IfSome p.operation (λ o. (z ≡ record y { state = back_logged y.state p.txn o.block }) × (y.state.stop ≡ None) × (q ≡ went_back p))
+
 -- its record
 abbrev pub record_on : Bool → ℕ → Option Operation → Record
 record_on back t None = AuditBegin
@@ -156,6 +165,11 @@ pub record HasGoneBack (b : Begun) (x : ClientSight) (y : RegionSight) (p : Plan
   pub id : z.id ≡ x.id
   pub seen : w.seen ≡ z.seen
   pub drives : Knows b (Driving x.id q) z
+
+-- no live hold stands
+abbrev pub is_unheld : Option Hold → Bool
+is_unheld None = true
+is_unheld (Some h) = h.dead
 
 abbrev pub is_live : Option State → Bool
 is_live (Some Live) = true

@@ -5,6 +5,8 @@
 --     GoesOn a c p             what it knows behind the answer a to its request
 --     HasJust c t k            of what it began just t is in the table, and of what it claimed just k is claimed still; or nothing
 --     Keeps, Takes, TakesClaim, LetsGo, LetsClaim      what it has stays;  a transaction or a claim is added;  or goes
+--     Stays b x t z            from x to z the client may call in t where it might, or drive its plan
+--     StaysAll, StaysBut       so it is of each transaction, and of each but u
 --     Settling c t dead        it acts for t, which is committed, with these removals to be freed
 --     MayEnd c t               it acts for t, whose end the rules allow and of which no region has a hold
 --     HasGone t                t has ended
@@ -15,6 +17,7 @@
 --     NotChecking c, Checking c    no checkpoint of it is under way;  its checkpoint is
 --     given p                  the answer that the plan p gives
 --     deed_of dead f           what is told of the refusal f
+--     starting_item started c y     what is told of a checkpoint that the client c asks for
 --     BothTell b x y item z w  what a step tells
 --     IsTold a ..              what is told of the answer a to a request
 use Rattle.std.specs.Prelude.{◌≡◌, ◌<◌, ℕ, Bool, true, false, not, ◌==◌, List, [], ◌∷◌, Option, Some, None, slice_get}
@@ -27,13 +30,14 @@ use Rattle.dali_locks.specs.declared.mode.LockAnswer.{LockAnswer}
 use Rattle.dali_locks.specs.declared.mode.LockAnswer.TheVariants.{Granted, Wait, Busy}
 use Rattle.dali_att.specs.declared.state.State.TheVariants.{Committed, Cleaning as IsCleaning}
 use Rattle.dali_runs.specs.declared.refusals.Refusal.{Refusal}
-use Rattle.dali_runs.specs.State.{state_of}
+use Rattle.dali_runs.specs.State.{SystemState, state_of}
 use Rattle.dali_runs.specs.Keeps.{IsNext, IsFree, may_log_in}
 use Rattle.dali_runs.specs.Audits.{IsAuditing}
 use Rattle.dali_runs.specs.Courses.{Locks, Refuses}
 use Rattle.dali_runs.specs.Facts.Ends.{IsEnding, IsOver}
-use Rattle.dali_crash.specs.Checkpoints.{Does}
-use Rattle.dali_transcripts.specs.World.{Deed, GetsLock, Yields, FindsDead, is_dead_in, under_way}
+use Rattle.dali_crash.specs.Checkpoints.{Does, Starts}
+use Rattle.dali_transcripts.specs.Words.{UnderWay}
+use Rattle.dali_transcripts.specs.World.{Deed, GetsLock, Yields, FindsDead, StartsCheckpoint, Meets, is_dead_in, under_way}
 use Rattle.dali_transcripts.specs.Telling.Deeds.{refusal_at}
 use Rattle.dali_audit.specs.declared.audit.Finding.{Finding}
 use Rattle.dali_audit.specs.Findings.{is_passed, is_damaged}
@@ -41,13 +45,14 @@ use Rattle.dali_calls.specs.Steps.{call_key, answer_of}
 use Rattle.dali_calls.specs.Plans.{Planned, mode_of}
 use Rattle.dali_calls.specs.Single.Stands.{IsAtRest, AtPlan}
 use Rattle.dali_calls.specs.Single.Single.{MayCall}
-use Rattle.dali_notes.specs.History.{Added}
+use Rattle.dali_notes.specs.History.{Added, AllMay}
 use Rattle.dali_concurrent.specs.Entries.{Did, Passed, At, deeds_of, actor_by}
 use Rattle.dali_concurrent.specs.Rules.{Outset, count_of, log_by, state_by, dead_by, NoneLive, BeganAudit}
-use Rattle.dali_concurrent.specs.Told.{OnSystem, Item, History, plain, core_told}
+use Rattle.dali_concurrent.specs.Told.{OnSystem, Leaves, Item, History, plain, core_told}
+use Rattle.dali_concurrent.specs.Kept.{SystemTold}
 use Rattle.dali_concurrent.specs.Audits.{NotEnded}
 use Rattle.dali_concurrent.specs.Own.{HasOnly}
-use Rattle.dali_locked.specs.Begun.{Begun}
+use Rattle.dali_locked.specs.Begun.{Begun, Of, may_add}
 use Rattle.dali_locked.specs.Sights.{ClientSight, SystemSight, client_sight, system_sight, Knows, Acts}
 
 -- ---- a transaction
@@ -88,6 +93,16 @@ LetsGo b x u z = (k : Option ℕ) → Knows b (HasJust x.id (Some u) k) x → Kn
 
 abbrev pub LetsClaim : Begun → (x : ClientSight) → ℕ → (z : ClientSight) → Type 0
 LetsClaim b x u z = (t : Option ℕ) → Knows b (HasJust x.id t (Some u)) x → Knows b (HasJust x.id t None) z
+
+-- ---- what others' steps, or its own on another one, leave of its transaction
+abbrev pub Stays : Begun → (x : ClientSight) → ℕ → (z : ClientSight) → Type 0
+Stays b x t z = (Knows b (Resting x.id t) x → Knows b (Resting x.id t) z) × ((p : Planned) → p.txn ≡ t → Knows b (Driving x.id p) x → Knows b (Driving x.id p) z)
+
+abbrev pub StaysAll : Begun → (x z : ClientSight) → Type 0
+StaysAll b x z = (t : ℕ) → Stays b x t z
+
+abbrev pub StaysBut : Begun → (x : ClientSight) → ℕ → (z : ClientSight) → Type 0
+StaysBut b x u z = (t : ℕ) → (u == t) ≡ false → Stays b x t z
 
 -- ---- its end
 pub record Settling (c t : ℕ) (dead : List Pending) (o : Outset) (T : History) : Type 0 where
@@ -149,11 +164,18 @@ abbrev pub deed_of : Bool → Refusal → Deed
 deed_of true f = FindsDead f
 deed_of false f = Yields f
 
--- client and system told this together, and have come from x and y to z and w
+-- of a checkpoint that is asked for: whether it starts
+abbrev pub starting_item : Bool → ℕ → SystemState → Item
+starting_item true c y = (Did StartsCheckpoint c, OnSystem y, Starts ∷ [])
+starting_item false c y = (Did (Meets UnderWay) c, Leaves, [])
+
+-- client and system told this together, as the rule allows, and have come from x and y to z and w; y was the system that is told
 pub record BothTell (b : Begun) (x : ClientSight) (y : SystemSight) (item : Item) (z : ClientSight) (w : SystemSight) : Type 0 where
   pub added : Added (client_sight b x ∷ system_sight b y ∷ []) item z.seen
   pub id : z.id ≡ x.id
   pub seen : w.seen ≡ z.seen
+  pub all : AllMay (may_add b) z.seen
+  pub was : Of b (λ o T. SystemTold o y.served.state T) y.seen
 
 -- p: the plan whose lock is asked for
 abbrev pub IsTold : LockAnswer → Begun → Planned → (x : ClientSight) → (y : SystemSight) → (z : ClientSight) → (w : SystemSight) → Type 0

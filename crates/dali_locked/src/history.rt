@@ -16,6 +16,19 @@ impl Beginning for Brand {
     ghost begun = { nowhere };
 }
 
+/// The notes of a round, which are made where it is known where the round began. Whoever then makes its values picks them.
+pub trait Home: Send + Sync {
+    ghost use Rattle.atomic_table.specs.Seated.{TableId};
+
+    ghost table: { TableId };
+}
+
+impl Home for Brand {
+    ghost use Rattle.dali_locked.specs.Begun.{no_table};
+
+    ghost table = { no_table };
+}
+
 /// An entry of the history. No value of it is made.
 pub struct Mark {
     nothing: u8,

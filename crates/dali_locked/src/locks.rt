@@ -1,25 +1,29 @@
 //! The locks, and how a client waits for what stands behind them.
-ghost use Rattle.std.specs.Prelude.{◌≡◌, ◌≢◌, ◌<◌, true, false, None, Some, OnErr, IfOk, IfErr, OnOk};
+ghost use Rattle.std.specs.Prelude.{◌≡◌, ◌≢◌, ◌<◌, ◌≤◌, [], true, false, None, Some, OnErr, IfOk, IfErr, IfSome, OnOk, vec_len, vec_capacity};
 ghost use Rattle.dali_system.specs.UnderWay.{all_written, words_left};
 ghost use Rattle.dali_calls.specs.Steps.{region_in};
 ghost use Rattle.dali_calls.specs.Plans.{is_back, plan_next, with_operation, IsWhole};
 ghost use Rattle.dali_locked.specs.Regions.{IsAt, IsAmid, record_on};
-ghost use Rattle.dali_record.specs.declared.records.Record.TheVariants.{Begin, Ended};
+ghost use Rattle.dali_record.specs.declared.records.Record.TheVariants.{Ended};
 ghost use Rattle.dali_calls.specs.Stepwise.Stepwise.{IsNew};
 ghost use Rattle.dali_locked.specs.Sights.{HasLogged, Knows};
-ghost use Rattle.dali_locked.specs.SystemSteps.{Asking, Driving, GoesOn, HasGone, HasJust, MayEnd, Resting};
+ghost use Rattle.dali_locked.specs.SystemSteps.{Asking, Driving, GoesOn, HasGone, HasJust, MayEnd};
+ghost use Rattle.dali_locked.specs.declared.locks.RegionError.TheVariants.{NoRegion, Logged};
+ghost use Rattle.dali_locked.specs.declared.error.LockedError.TheVariants.{Unfit};
+ghost use Rattle.dali_locked.specs.Begun.{FromEach};
+ghost use Rattle.dali_locked.specs.Unlocked.{StraysOn, LatchesOn, UpdatesOn, CommitsOn, GoesBackOn, RefusedOn, LeftOn};
 ghost use Rattle.dali_locked.specs.Vaults.{IsDurable, IsLogged, SeesFault};
 
 use crate::client::ClientNote;
 use crate::error::LockedError;
-use crate::history::{Beginning, Mark, OfRound};
+use crate::history::{Beginning, Home, Mark, OfRound};
 use crate::region::LockedRegion;
 use crate::system::LockedSystem;
 use crate::vault::{FlushError, LockedVault, VaultBeginning, make_durable};
 use dali_calls::Plan;
 use dali_locks::LockAnswer;
-use dali_notes::Notes;
-use dali_region::{LatchError, Receipt};
+use dali_notes::{Note, Notes};
+use dali_region::{LatchError, Receipt, Region};
 use dali_schedule::Schedule;
 use dali_store::Store;
 use dali_system::SystemError;
@@ -29,14 +33,14 @@ use thiserror::Error;
 
 /// A region's lock, with the news that an operation has ended there.
 #[derive(Drop)]
-pub struct RegionLock<B: Beginning> {
-    lock: Mutex<LockedRegion<B>>,
-    freed: Condvar,
+pub struct RegionLock<B: Beginning, H: Home> {
+    pub(crate) lock: Mutex<LockedRegion<B, H>>,
+    pub(crate) freed: Condvar,
 }
 
-impl<B: Beginning> RegionLock<B> {
+impl<B: Beginning, H: Home> RegionLock<B, H> {
     /// A lock over the region.
-    pub fn new(region: LockedRegion<B>) -> RegionLock<B> {
+    pub fn new(region: LockedRegion<B, H>) -> RegionLock<B, H> {
         RegionLock {
             lock: Mutex::new(region),
             freed: Condvar::new(),
@@ -61,37 +65,46 @@ pub enum RegionError {
 /// What the clients of a round share: each value behind a lock of its own. Who takes several takes the vault's first, then a region's,
 /// then the system's. A client comes to its schedule before each step, with no lock in hand.
 #[derive(Drop)]
-pub struct Locks<B: Beginning + VaultBeginning<V>, V: Store, S: Schedule> {
-    notes: Notes<Mark, OfRound<B>>,
-    schedule: S,
-    system: Mutex<LockedSystem<B>>,
-    // a transaction has ended, or the engine is stopped
-    ended: Condvar,
-    regions: Vec<RegionLock<B>>,
-    vault: Mutex<LockedVault<B, V>>,
+pub struct Locks<B: Beginning + VaultBeginning<V>, H: Home, V: Store, S: Schedule> {
+    pub(crate) notes: Notes<Mark, OfRound<B>>,
+    pub(crate) schedule: S,
+    pub(crate) system: Mutex<LockedSystem<B, H>>,
+    // a transaction has ended, its client has died, its claim is given back, or the engine is stopped
+    pub(crate) ended: Condvar,
+    pub(crate) regions: Vec<RegionLock<B, H>>,
+    pub(crate) vault: Mutex<LockedVault<B, H, V>>,
+    // what the core's regions and the notes stood in, empty
+    pub(crate) rooms: (Vec<Region>, Vec<Note<Mark, OfRound<B>>>),
 }
 
-impl<B: Beginning + VaultBeginning<V>, V: Store, S: Schedule> Model for Locks<B, V, S> {
-    ghost use Rattle.std.specs.Prelude.{◌≡◌};
+impl<B: Beginning + VaultBeginning<V>, H: Home, V: Store, S: Schedule> Model for Locks<B, H, V, S> {
+    ghost use Rattle.std.specs.Prelude.{◌≡◌, ◌≤◌, [], vec_len, vec_capacity};
     ghost use Rattle.dali_notes.specs.History.{Place};
 
     ghost Value = { Place };
 
     ghost view = { λ l. l.notes };
 
-    ghost invariant = { λ l. l.notes.table ≡ B.begun.table };
+    ghost invariant = { λ l. (l.notes.table ≡ H.table) × (vec_len l.regions ≡ B.begun.count)
+        × (l.rooms.0.items ≡ []) × (B.begun.count ≤ vec_capacity l.rooms.0) × (l.rooms.1.items ≡ []) × (l.notes.count ≤ vec_capacity l.rooms.1) };
 }
 
-impl<B: Beginning + VaultBeginning<V>, V: Store, S: Schedule> Locks<B, V, S> {
-    /// The locks of a round, over values whose notes are of this history.
+impl<B: Beginning + VaultBeginning<V>, H: Home, V: Store, S: Schedule> Locks<B, H, V, S> {
+    /// The locks of a round, over values whose notes are of this history: a lock for each region, the last one first. `rooms`: with room for
+    /// the regions and for all notes, which come back when the round ends.
     pub fn new(
         notes: Notes<Mark, OfRound<B>>,
         schedule: S,
-        system: LockedSystem<B>,
-        regions: Vec<RegionLock<B>>,
-        vault: LockedVault<B, V>,
-    ) -> Locks<B, V, S>
-        requires home { notes.table ≡ B.begun.table }
+        system: LockedSystem<B, H>,
+        regions: Vec<RegionLock<B, H>>,
+        vault: LockedVault<B, H, V>,
+        rooms: (Vec<Region>, Vec<Note<Mark, OfRound<B>>>),
+    ) -> Locks<B, H, V, S>
+        requires home { notes.table ≡ H.table }
+        requires each { vec_len regions ≡ B.begun.count }
+        requires none { (rooms.0.items ≡ []) × (rooms.1.items ≡ []) }
+        requires room { (B.begun.count ≤ vec_capacity rooms.0) × (notes.count ≤ vec_capacity rooms.1) }
+        ensures { result ≡ notes }
     {
         Locks {
             notes,
@@ -100,21 +113,13 @@ impl<B: Beginning + VaultBeginning<V>, V: Store, S: Schedule> Locks<B, V, S> {
             ended: Condvar::new(),
             regions,
             vault: Mutex::new(vault),
+            rooms,
         }
     }
 
-    /// The client begins a transaction, as `LockedSystem::begin`.
-    pub fn begin<R: Wait>(
-        &self,
-        rt: &R,
-        client: &mut ClientNote<B>,
-    ) -> Result<(u64, Receipt), SystemError>
-        ensures rests { IfOk result (λ given. Knows B.begun (Resting client.old.id given.0) client.new) }
-        ensures receipt { IfOk result (λ given. Knows B.begun (HasLogged given.1.number (Begin given.0)) client.new) }
-        ensures err { OnErr result (client.new ≡ client.old) }
-    {
-        self.schedule.step(rt, client.id());
-        self.system.lock(rt).begin(&self.notes, client)
+    /// By which its clients go on. Each has the number `ClientNote::seat` there.
+    pub fn schedule(&self) -> &S {
+        &self.schedule
     }
 
     /// The client asks for the lock of its new plan's call, as `LockedSystem::request`, and waits while a younger transaction has it: so
@@ -122,7 +127,7 @@ impl<B: Beginning + VaultBeginning<V>, V: Store, S: Schedule> Locks<B, V, S> {
     pub fn request<R: Wait>(
         &self,
         rt: &R,
-        client: &mut ClientNote<B>,
+        client: &mut ClientNote<B, H>,
         plan: &Plan,
     ) -> Result<LockAnswer, SystemError>
         requires fresh { IsNew plan.now }
@@ -132,13 +137,13 @@ impl<B: Beginning + VaultBeginning<V>, V: Store, S: Schedule> Locks<B, V, S> {
         ensures err { OnErr result (client.new ≡ client.old) }
     {
         for _ in rt.forever() {
-            self.schedule.step(rt, client.id());
+            self.schedule.step(rt, client.seat());
             let mut system = self.system.lock(rt);
             let answer = system.request(&self.notes, client, plan)?;
             let LockAnswer::Wait { .. } = answer else {
                 return Ok(answer);
             };
-            self.schedule.pause(rt, client.id(), system, &self.ended);
+            self.schedule.pause(rt, client.seat(), system, &self.ended);
         }
         unreachable!()
     }
@@ -147,7 +152,7 @@ impl<B: Beginning + VaultBeginning<V>, V: Store, S: Schedule> Locks<B, V, S> {
     pub fn end<R: Wait>(
         &self,
         rt: &R,
-        client: &mut ClientNote<B>,
+        client: &mut ClientNote<B, H>,
         txn: u64,
     ) -> Result<Receipt, SystemError>
         requires may { Knows B.begun (MayEnd client.old.id txn) client.old }
@@ -155,7 +160,7 @@ impl<B: Beginning + VaultBeginning<V>, V: Store, S: Schedule> Locks<B, V, S> {
         ensures receipt { IfOk result (λ given. Knows B.begun (HasLogged given.number (Ended txn)) client.new) }
         ensures err { OnErr result (client.new ≡ client.old) }
     {
-        self.schedule.step(rt, client.id());
+        self.schedule.step(rt, client.seat());
         let receipt = self.system.lock(rt).ended(&self.notes, client, txn)?;
         self.ended.notify_all();
         Ok(receipt)
@@ -165,14 +170,14 @@ impl<B: Beginning + VaultBeginning<V>, V: Store, S: Schedule> Locks<B, V, S> {
     pub fn flush<R: Wait>(
         &self,
         rt: &R,
-        client: &mut ClientNote<B>,
+        client: &mut ClientNote<B, H>,
         number: u64,
     ) -> Result<(), FlushError>
         requires logged { Knows B.begun (IsLogged number) client.old }
         ensures ok { OnOk result (Knows B.begun (IsDurable number) client.new) }
         ensures err { IfErr result (λ e. SeesFault B.begun e client.old client.new) }
     {
-        self.schedule.step(rt, client.id());
+        self.schedule.step(rt, client.seat());
         let flushed = make_durable(rt, &self.notes, &self.vault, &self.system, client, number);
         if flushed.is_err() {
             self.ended.notify_all();
@@ -181,7 +186,10 @@ impl<B: Beginning + VaultBeginning<V>, V: Store, S: Schedule> Locks<B, V, S> {
     }
 
     // The lock of the region with this number. The last region's lock stands first.
-    fn region_lock(&self, region: u32) -> Option<&RegionLock<B>> {
+    pub(crate) fn region_lock(&self, region: u32) -> Option<&RegionLock<B, H>>
+        ensures some { IfSome result (λ lock. region < B.begun.count) }
+        ensures none { result ≡ None → B.begun.count ≤ region }
+    {
         let last = self.regions.len().checked_sub(1)?;
         self.regions.get(last.checked_sub(region as usize)?)
     }
@@ -191,7 +199,7 @@ impl<B: Beginning + VaultBeginning<V>, V: Store, S: Schedule> Locks<B, V, S> {
     pub fn latch<R: Wait>(
         &self,
         rt: &R,
-        client: &mut ClientNote<B>,
+        client: &mut ClientNote<B, H>,
         plan: &mut Plan,
         region: u32,
         precheck: bool,
@@ -204,13 +212,17 @@ impl<B: Beginning + VaultBeginning<V>, V: Store, S: Schedule> Locks<B, V, S> {
         ensures amid { OnOk result (Knows B.begun (IsAmid client.old.id region plan.new) client.new) }
         ensures same { (plan.new ≡ with_operation plan.old plan.new.operation) × (client.new.id ≡ client.old.id) }
         ensures whole { IsWhole plan.old → OnOk result (IsWhole plan.new) }
+        ensures latches { OnOk result (LatchesOn B.begun client.old plan.old region plan.new client.new) }
+        ensures refused { IfErr result (RefusedOn B.begun plan.old) }
         ensures err { OnErr result ((plan.new ≡ plan.old) × (client.new ≡ client.old)) }
+        ensures none { result ≡ Err NoRegion → B.begun.count ≤ region }
+        ensures beyond { B.begun.count ≤ region → result ≡ Err NoRegion }
     {
         let Some(lock) = self.region_lock(region) else {
             return Err(RegionError::NoRegion);
         };
         for _ in rt.forever() {
-            self.schedule.step(rt, client.id());
+            self.schedule.step(rt, client.seat());
             let mut held = lock.lock.lock(rt);
             if held.number() == region && held.is_free() {
                 return match held.latch(&self.notes, client, plan, precheck) {
@@ -218,7 +230,7 @@ impl<B: Beginning + VaultBeginning<V>, V: Store, S: Schedule> Locks<B, V, S> {
                     Err(cause) => Err(RegionError::Latch { cause }),
                 };
             }
-            self.schedule.pause(rt, client.id(), held, &lock.freed);
+            self.schedule.pause(rt, client.seat(), held, &lock.freed);
         }
         unreachable!()
     }
@@ -227,7 +239,7 @@ impl<B: Beginning + VaultBeginning<V>, V: Store, S: Schedule> Locks<B, V, S> {
     pub fn update<R: Wait>(
         &self,
         rt: &R,
-        client: &mut ClientNote<B>,
+        client: &mut ClientNote<B, H>,
         plan: &mut Plan,
         region: u32,
         at: u64,
@@ -241,18 +253,20 @@ impl<B: Beginning + VaultBeginning<V>, V: Store, S: Schedule> Locks<B, V, S> {
         ensures same { (plan.new ≡ with_operation plan.old plan.new.operation) × (client.new.id ≡ client.old.id) }
         ensures whole { IsWhole plan.new }
         ensures fewer { OnOk result (words_left plan.new.operation < words_left plan.old.operation) }
-        ensures err { OnErr result ((plan.new ≡ plan.old) × (client.new ≡ client.old)) }
+        ensures writes { OnOk result (UpdatesOn B.begun client.old plan.old region plan.new client.new) }
+        ensures err { IfErr result (λ e. (e ≡ NoRegion) × (B.begun.count ≤ region) × (plan.new ≡ plan.old) × (client.new ≡ client.old)) }
+        ensures beyond { B.begun.count ≤ region → result ≡ Err NoRegion }
     {
         let Some(lock) = self.region_lock(region) else {
             return Err(RegionError::NoRegion);
         };
         for _ in rt.forever() {
-            self.schedule.step(rt, client.id());
+            self.schedule.step(rt, client.seat());
             let mut held = lock.lock.lock(rt);
             if held.number() == region && held.steps() == at && at < u64::MAX {
                 return Ok(held.update(&self.notes, client, plan, at));
             }
-            self.schedule.pause(rt, client.id(), held, &lock.freed);
+            self.schedule.pause(rt, client.seat(), held, &lock.freed);
         }
         unreachable!()
     }
@@ -261,7 +275,7 @@ impl<B: Beginning + VaultBeginning<V>, V: Store, S: Schedule> Locks<B, V, S> {
     pub fn commit<R: Wait>(
         &self,
         rt: &R,
-        client: &mut ClientNote<B>,
+        client: &mut ClientNote<B, H>,
         plan: &mut Plan,
         region: u32,
         at: u64,
@@ -273,12 +287,17 @@ impl<B: Beginning + VaultBeginning<V>, V: Store, S: Schedule> Locks<B, V, S> {
         requires written { all_written plan.old.operation ≡ true }
         ensures drives { OnOk result (Knows B.begun (Driving client.old.id plan.new) client.new) }
         ensures receipt { IfOk result (λ receipt. Knows B.begun (HasLogged receipt.number (record_on (is_back plan.old) plan.old.txn plan.old.operation)) client.new) }
+        ensures logs { OnOk result (CommitsOn B.begun client.old plan.old region plan.new client.new) }
+        ensures err { IfErr result (λ e. LeftOn e (GoesBackOn B.begun client.old plan.old region plan.new client.new) ((client.new ≡ client.old) × (plan.new ≡ plan.old))) }
+        ensures unfit { result ≡ Err (Logged Unfit) → FromEach B.begun (λ s p. ⊥) }
+        ensures none { result ≡ Err NoRegion → B.begun.count ≤ region }
+        ensures beyond { B.begun.count ≤ region → result ≡ Err NoRegion }
     {
         let Some(lock) = self.region_lock(region) else {
             return Err(RegionError::NoRegion);
         };
         for _ in rt.forever() {
-            self.schedule.step(rt, client.id());
+            self.schedule.step(rt, client.seat());
             let mut held = lock.lock.lock(rt);
             if held.number() == region && held.steps() == at && at < u64::MAX {
                 let logged = {
@@ -292,7 +311,7 @@ impl<B: Beginning + VaultBeginning<V>, V: Store, S: Schedule> Locks<B, V, S> {
                     Err(cause) => return Err(RegionError::Logged { cause }),
                 }
             }
-            self.schedule.pause(rt, client.id(), held, &lock.freed);
+            self.schedule.pause(rt, client.seat(), held, &lock.freed);
         }
         unreachable!()
     }
@@ -301,7 +320,7 @@ impl<B: Beginning + VaultBeginning<V>, V: Store, S: Schedule> Locks<B, V, S> {
     pub fn poke<R: Wait>(
         &self,
         rt: &R,
-        client: &mut ClientNote<B>,
+        client: &mut ClientNote<B, H>,
         region: u32,
         word: u8,
         mask: u64,
@@ -309,13 +328,22 @@ impl<B: Beginning + VaultBeginning<V>, V: Store, S: Schedule> Locks<B, V, S> {
         requires in_range { word < 64 }
         requires changes { mask ≢ 0 }
         ensures id { client.new.id ≡ client.old.id }
-        ensures err { OnErr result (client.new ≡ client.old) }
+        ensures strays { OnOk result (StraysOn B.begun client.old region word mask client.new) }
+        ensures err { IfErr result (λ e. (e ≡ NoRegion) × (B.begun.count ≤ region) × (client.new ≡ client.old)) }
+        ensures beyond { B.begun.count ≤ region → result ≡ Err NoRegion }
     {
         let Some(lock) = self.region_lock(region) else {
             return Err(RegionError::NoRegion);
         };
-        self.schedule.step(rt, client.id());
-        lock.lock.lock(rt).poke(&self.notes, client, word, mask);
-        Ok(())
+        for _ in rt.forever() {
+            self.schedule.step(rt, client.seat());
+            let mut held = lock.lock.lock(rt);
+            if held.number() == region {
+                held.poke(&self.notes, client, word, mask);
+                return Ok(());
+            }
+            self.schedule.pause(rt, client.seat(), held, &lock.freed);
+        }
+        unreachable!()
     }
 }

@@ -1,19 +1,22 @@
 //! A region behind its lock.
-ghost use Rattle.std.specs.Prelude.{◌≡◌, ◌≢◌, ◌==◌, ◌+◌, ◌<◌, ◌≤◌, ℕ, List, Bool, ◌&&◌, not, [], ◌∷◌, true, false, Some, None, Ok, Err, IsSomeAnd, IfSome, IfOk, IfErr, OnOk, OnErr};
+ghost use Rattle.std.specs.Prelude.{◌≡◌, ◌≢◌, ◌==◌, ◌+◌, ◌<◌, ◌≤◌, ℕ, List, Bool, Option as OptionOf, IsSome, ◌&&◌, not, nat_lt, [], ◌∷◌, true, false, Some, None, Ok, Err, IsSomeAnd, IfSome, IfOk, IfErr, OnOk, OnErr};
 ghost use Rattle.dali_record.specs.declared.records.Record.TheVariants.{Forward};
 ghost use Rattle.dali_record.specs.Spelling.{record_length};
 ghost use Rattle.dali_notes.specs.History.{Added, AllMay, MayAdd};
 ghost use Rattle.dali_record.specs.Blocks.{IsSoundOn};
-ghost use Rattle.dali_region.specs.State.{latched, with_reads, poked, touched, checked};
+ghost use Rattle.dali_region.specs.State.{RegionState, latched, with_reads, poked, touched, taken_back, checked};
 ghost use Rattle.dali_region.specs.Answers.{latch_answer};
 ghost use Rattle.dali_calls.specs.Steps.{call_key, region_in, IsBlockOf};
 ghost use Rattle.dali_att.specs.declared.state.State.TheVariants.{Live};
-ghost use Rattle.dali_runs.specs.State.{state_of};
+ghost use Rattle.dali_runs.specs.State.{row_of, state_of};
+ghost use Rattle.dali_runs.specs.Regions.{IsOpen};
 ghost use Rattle.dali_runs.specs.Steps.{op_logged, back_logged};
 ghost use Rattle.dali_runs.specs.Keeps.{HasRoom};
 ghost use Rattle.dali_system.specs.declared.error.SystemError.TheVariants.{OutOfMemory as Memory};
-ghost use Rattle.dali_system.specs.UnderWay.{WritesNext, all_written};
-ghost use Rattle.dali_calls.specs.Plans.{is_back, plan_next, with_operation, went_back, commit_refusal, GoesOn, IsWhole};
+ghost use Rattle.dali_system.specs.Served.{Served};
+ghost use Rattle.dali_system.specs.declared.operation.Operation.{Operation as OperationOf};
+ghost use Rattle.dali_system.specs.UnderWay.{OneIsUnderWay, WritesNext, all_written};
+ghost use Rattle.dali_calls.specs.Plans.{Planned, is_back, plan_next, with_operation, went_back, commit_refusal, GoesOn, IsWhole};
 ghost use Rattle.dali_concurrent.specs.Entries.{At, Passed, region_note};
 ghost use Rattle.dali_concurrent.specs.Told.{plain};
 ghost use Rattle.dali_concurrent.specs.Kept.{RegionTold};
@@ -21,12 +24,12 @@ ghost use Rattle.dali_locked.specs.Begun.{FromEach, Led, Of, may_add};
 ghost use Rattle.dali_locked.specs.Sights.{HasLogged, Knows, client_sight, system_sight, region_sight};
 ghost use Rattle.dali_locked.specs.declared.error.LockedError.TheVariants.{System as BySystem, Unfit};
 ghost use Rattle.dali_locked.specs.SystemSteps.{Driving};
-ghost use Rattle.dali_locked.specs.Regions.{IsAt, IsAmid, IsOpenAudit, HasPassed, HasGoneBack, IfRefused, is_live, LeftBy, stray_item, latch_item, freed_item, logged_item, pass_item, record_on};
+ghost use Rattle.dali_locked.specs.Regions.{IsAt, IsAmid, IsOpenAudit, HasPassed, HasGoneBack, IfRefused, is_live, is_unheld, LeftBy, LogsPlan, stray_item, latch_item, freed_item, logged_item, pass_item, record_on};
 ghost use Rattle.dali_locked.specs.RegionWords.{word_item};
 
 use crate::client::ClientNote;
 use crate::error::LockedError;
-use crate::history::{Beginning, Mark, OfRound};
+use crate::history::{Beginning, Home, Mark, OfRound};
 use crate::system::LockedSystem;
 use dali_att::State;
 use dali_calls::Plan;
@@ -37,16 +40,18 @@ use std::marker::{Brand, Model, PhantomData};
 
 /// A region with its number, its note, and the number of steps that operations have made on it since the round began.
 #[derive(Drop)]
-pub struct LockedRegion<B: Beginning> {
+pub struct LockedRegion<B: Beginning, H: Home> {
     pub(crate) number: u32,
     pub(crate) steps: u64,
     // one more than the record at which the last audit that passed it began
     pub(crate) audits: u64,
     pub(crate) region: Region,
     pub(crate) note: Note<Mark, OfRound<B>>,
+    pub(crate) home: PhantomData<H>,
 }
 
-impl<B: Beginning> Model for LockedRegion<B> {
+impl<B: Beginning, H: Home> Model for LockedRegion<B, H> {
+    ghost use Rattle.dali_locked.specs.Begun.{homed};
     ghost use Rattle.std.specs.Coded.{codes};
     ghost use Rattle.dali_system.specs.Coded.{system_code};
     ghost use Rattle.dali_locked.specs.Sights.{RegionSight};
@@ -58,11 +63,11 @@ impl<B: Beginning> Model for LockedRegion<B> {
 
     ghost view = { λ l. record { number = l.number; steps = l.steps; audits = l.audits; region = l.region; seen = l.note.seen } };
 
-    ghost invariant = { λ l. RegionKept B.begun l.note.table l.note.number (record { number = l.number; steps = l.steps; audits = l.audits; region = l.region; seen = l.note.seen }) };
+    ghost invariant = { λ l. RegionKept (homed H.table B.begun) l.note.table l.note.number (record { number = l.number; steps = l.steps; audits = l.audits; region = l.region; seen = l.note.seen }) };
 }
 
 // What a step tells of the region behind it. Each call picks it.
-trait RegionItem {
+pub(crate) trait RegionItem {
     ghost use Rattle.dali_region.specs.State.{RegionState};
     ghost use Rattle.dali_concurrent.specs.Told.{Item};
 
@@ -75,12 +80,100 @@ impl RegionItem for Brand {
     ghost item = { λ h. no_item };
 }
 
-struct OfRegion<D> {
+pub(crate) struct OfRegion<D> {
     of: PhantomData<D>,
 }
 
 impl<D: RegionItem> Tells<Region, Mark> for OfRegion<D> {
     ghost entry = { λ h. D.item h };
+}
+
+// Client and region tell a step, which is picked by the client, by what the step shows and by the region behind it.
+pub(crate) fn tell_both<B: Beginning, X, D: RegionItem>(
+    notes: &Notes<Mark, OfRound<B>>,
+    client: &mut Note<Mark, OfRound<B>>,
+    note: &mut Note<Mark, OfRound<B>>,
+    id: u32,
+    about: &X,
+    after: &Region,
+)
+    requires tables { (client.old.table ≡ notes.now.table) × (note.old.table ≡ notes.now.table) }
+    requires may { MayAdd (may_add B.begun) (client.old ∷ note.old ∷ []) (D.item after.now) }
+    ensures table { client.new.table ≡ client.old.table }
+    ensures number { client.new.number ≡ client.old.number }
+    ensures added { Added (client.old ∷ note.old ∷ []) (D.item after.now) client.new.seen }
+    ensures all { AllMay (may_add B.begun) client.new.seen }
+    ensures other { note.new ≡ record note.old { seen = client.new.seen } }
+{
+    let _ = id;
+    let _ = about;
+    notes.add_both::<Region, OfRegion<D>>(client, note, after);
+}
+
+// Writes the next word of the plan's operation, which client and region tell. `by`: the client's number, and the region's.
+fn write<B: Beginning, D: RegionItem>(
+    notes: &Notes<Mark, OfRound<B>>,
+    client: &mut Note<Mark, OfRound<B>>,
+    note: &mut Note<Mark, OfRound<B>>,
+    by: (u32, u32),
+    region: &mut Region,
+    plan: &mut Plan,
+)
+    requires item { D.item ≡ word_item by.0 by.1 region.old }
+    requires tables { (client.old.table ≡ notes.now.table) × (note.old.table ≡ notes.now.table) }
+    requires under_way { OneIsUnderWay plan.old.operation region.old }
+    requires left { all_written plan.old.operation ≡ false }
+    requires may { (h : RegionState) (o : OptionOf OperationOf) → WritesNext plan.old.operation region.old true o h
+        → MayAdd (may_add B.begun) (client.old ∷ note.old ∷ []) (word_item by.0 by.1 region.old h) }
+    ensures writes { WritesNext plan.old.operation region.old true plan.new.operation region.new }
+    ensures rest { plan.new ≡ with_operation plan.old plan.new.operation }
+    ensures table { client.new.table ≡ client.old.table }
+    ensures number { client.new.number ≡ client.old.number }
+    ensures added { Added (client.old ∷ note.old ∷ []) (word_item by.0 by.1 region.old region.new) client.new.seen }
+    ensures all { AllMay (may_add B.begun) client.new.seen }
+    ensures other { note.new ≡ record note.old { seen = client.new.seen } }
+{
+    let _ = by;
+    plan.update(region);
+    notes.add_both::<Region, OfRegion<D>>(client, note, region);
+}
+
+// Logs the plan's operation, which client, system and region tell, the notes in this order. Where the system refuses nothing is told.
+fn log<B: Beginning, D: RegionItem>(
+    notes: &Notes<Mark, OfRound<B>>,
+    client: &mut Note<Mark, OfRound<B>>,
+    of_system: &mut Note<Mark, OfRound<B>>,
+    note: &mut Note<Mark, OfRound<B>>,
+    id: u32,
+    system: &mut System,
+    region: &mut Region,
+    plan: &mut Plan,
+) -> Result<Receipt, SystemError>
+    requires item { D.item ≡ logged_item id (is_back plan.old) plan.old.txn plan.old.operation system.old.state }
+    requires tables { (client.old.table ≡ notes.now.table) × (of_system.old.table ≡ notes.now.table) × (note.old.table ≡ notes.now.table) }
+    requires written { IsSomeAnd plan.old.operation (λ o. IsOpen region.old o.txn o.block) }
+    requires running { IsSome (row_of system.old.state plan.old.txn) }
+    requires may { (q : Planned) (z : Served) → LogsPlan plan.old system.old q z → MayAdd (may_add B.begun) (client.old ∷ of_system.old ∷ note.old ∷ [])
+        (logged_item id (is_back plan.old) plan.old.txn plan.old.operation system.old.state (touched region.old)) }
+    ensures logs { OnOk result (LogsPlan plan.old system.old plan.new system.new × (region.new ≡ touched region.old)) }
+    ensures number { IfOk result (λ receipt. receipt.number ≡ system.old.state.records) }
+    ensures told { OnOk result ((client.new.table ≡ client.old.table) × (client.new.number ≡ client.old.number) × AllMay (may_add B.begun) client.new.seen
+        × (of_system.new ≡ record of_system.old { seen = client.new.seen }) × (note.new ≡ record note.old { seen = client.new.seen })) }
+    ensures added { OnOk result (Added (client.old ∷ of_system.old ∷ note.old ∷ [])
+        (logged_item id (is_back plan.old) plan.old.txn plan.old.operation system.old.state region.new) client.new.seen) }
+    ensures err { OnErr result ((system.new ≡ system.old) × (region.new ≡ taken_back region.old) × (plan.new ≡ with_operation plan.old None)) }
+    ensures untold { OnErr result ((client.new ≡ client.old) × (of_system.new ≡ of_system.old) × (note.new ≡ note.old)) }
+    ensures refused { IfSome plan.old.operation (λ o. IfSome (commit_refusal (is_back plan.old) system.old.state (record_length (Forward plan.old.txn o.block))) (λ e. result ≡ Err e)) }
+    ensures memory { IfSome plan.old.operation (λ o. commit_refusal (is_back plan.old) system.old.state (record_length (Forward plan.old.txn o.block)) ≡ None → IfErr result (λ e. e ≡ Memory)) }
+{
+    let _ = id;
+    match plan.commit(region, system) {
+        Ok(receipt) => {
+            notes.add_three::<Region, OfRegion<D>>(client, of_system, note, region);
+            Ok(receipt)
+        }
+        Err(cause) => Err(cause),
+    }
 }
 
 // The region alone tells that an audit has passed it.
@@ -109,10 +202,10 @@ fn lives(system: &System, txn: u64) -> bool
     matches!(system.state(txn), Some(State::Live))
 }
 
-impl<B: Beginning> LockedRegion<B> {
+impl<B: Beginning, H: Home> LockedRegion<B, H> {
     /// The region where the notes are made: no operation was done on it.
-    pub fn new(number: u32, region: Region, note: Note<Mark, OfRound<B>>) -> LockedRegion<B>
-        requires note { (note.table ≡ B.begun.table) × (note.number ≡ region_note number) }
+    pub fn new(number: u32, region: Region, note: Note<Mark, OfRound<B>>) -> LockedRegion<B, H>
+        requires note { (note.table ≡ H.table) × (note.number ≡ region_note number) }
         requires led { Led B.begun note.seen }
         requires told { Of B.begun (λ o T. RegionTold o number region T) note.seen }
         requires fresh { note.seen ≡ [] }
@@ -124,6 +217,7 @@ impl<B: Beginning> LockedRegion<B> {
             audits: 0,
             region,
             note,
+            home: PhantomData,
         }
     }
 
@@ -143,7 +237,8 @@ impl<B: Beginning> LockedRegion<B> {
 
     /// Whether no live hold stands on it, and one step more can be counted.
     pub fn is_free(&self) -> bool
-        ensures { result ≡ true → self.now.steps < 18446744073709551615 }
+        ensures free { result ≡ (is_unheld self.now.region.hold && nat_lt self.now.steps 18446744073709551615) }
+        ensures room { result ≡ true → self.now.steps < 18446744073709551615 }
     {
         match self.region.hold() {
             None => self.steps < u64::MAX,
@@ -151,16 +246,15 @@ impl<B: Beginning> LockedRegion<B> {
         }
     }
 
-    // As `poke`, with what is told.
-    fn poke_as<D: RegionItem>(
+    /// Damages a word, as a stray write of this client would. The word's number is below 64, and the mask not 0.
+    pub fn poke(
         &mut self,
         notes: &Notes<Mark, OfRound<B>>,
-        client: &mut ClientNote<B>,
+        client: &mut ClientNote<B, H>,
         word: u8,
         mask: u64,
     )
-        requires item { D.item ≡ stray_item client.old.id self.old.number word mask }
-        requires home { notes.now.table ≡ B.begun.table }
+        requires home { notes.now.table ≡ H.table }
         requires in_range { word < 64 }
         requires changes { mask ≢ 0 }
         ensures after { self.new.region ≡ poked word mask self.old.region }
@@ -169,38 +263,26 @@ impl<B: Beginning> LockedRegion<B> {
         ensures sees { (client.new.id ≡ client.old.id) × (self.new.seen ≡ client.new.seen) }
     {
         self.region.poke(word, mask);
-        notes.add_both::<Region, OfRegion<D>>(&mut client.note, &mut self.note, &self.region);
+        tell_both::<B, (u32, u8, u64), Brand>(
+            notes,
+            &mut client.note,
+            &mut self.note,
+            client.id,
+            &(self.number, word, mask),
+            &self.region,
+        );
     }
 
-    /// Damages a word, as a stray write of this client would. The word's number is below 64, and the mask not 0.
-    pub fn poke(
+    /// Latches it for the plan's next operation, which then reads. Answers the number of that step, by which its client
+    /// finds the operation again. Refused exactly as the plan's latch; then nothing has changed.
+    pub fn latch(
         &mut self,
         notes: &Notes<Mark, OfRound<B>>,
-        client: &mut ClientNote<B>,
-        word: u8,
-        mask: u64,
-    )
-        requires home { notes.now.table ≡ B.begun.table }
-        requires in_range { word < 64 }
-        requires changes { mask ≢ 0 }
-        ensures after { self.new.region ≡ poked word mask self.old.region }
-        ensures same { (self.new.number ≡ self.old.number) × (self.new.steps ≡ self.old.steps) }
-        ensures tells { Added (client_sight B.begun client.old ∷ region_sight B.begun self.old ∷ []) (stray_item client.old.id self.old.number word mask self.new.region) client.new.seen }
-        ensures sees { (client.new.id ≡ client.old.id) × (self.new.seen ≡ client.new.seen) }
-    {
-        self.poke_as::<Brand>(notes, client, word, mask);
-    }
-
-    // As `latch`, with what is told.
-    fn latch_as<D: RegionItem>(
-        &mut self,
-        notes: &Notes<Mark, OfRound<B>>,
-        client: &mut ClientNote<B>,
+        client: &mut ClientNote<B, H>,
         plan: &mut Plan,
         precheck: bool,
     ) -> Result<u64, LatchError>
-        requires item { D.item ≡ latch_item client.old.id self.old.number plan.old.txn }
-        requires home { notes.now.table ≡ B.begun.table }
+        requires home { notes.now.table ≡ H.table }
         requires precheck { precheck ≡ B.begun.precheck }
         requires wants { region_in (plan_next plan.old) ≡ Some self.old.number }
         requires closed { plan.old.operation ≡ None }
@@ -224,74 +306,17 @@ impl<B: Beginning> LockedRegion<B> {
             Ok(()) => {}
             Err(cause) => return Err(cause),
         }
-        notes.add_both::<Region, OfRegion<D>>(&mut client.note, &mut self.note, &self.region);
+        let txn = plan.txn();
+        tell_both::<B, (u32, u64), Brand>(
+            notes,
+            &mut client.note,
+            &mut self.note,
+            client.id,
+            &(self.number, txn),
+            &self.region,
+        );
         self.steps += 1;
         Ok(self.steps)
-    }
-
-    /// Latches it for the plan's next operation, which then reads. Answers the number of that step, by which its client
-    /// finds the operation again. Refused exactly as the plan's latch; then nothing has changed.
-    pub fn latch(
-        &mut self,
-        notes: &Notes<Mark, OfRound<B>>,
-        client: &mut ClientNote<B>,
-        plan: &mut Plan,
-        precheck: bool,
-    ) -> Result<u64, LatchError>
-        requires home { notes.now.table ≡ B.begun.table }
-        requires precheck { precheck ≡ B.begun.precheck }
-        requires wants { region_in (plan_next plan.old) ≡ Some self.old.number }
-        requires closed { plan.old.operation ≡ None }
-        requires acts { Knows B.begun (Driving client.old.id plan.old) client.old }
-        requires room { self.old.steps < 18446744073709551615 }
-        ensures cause { IfErr result (λ e. Err e ≡ latch_answer (not (is_back plan.old) && precheck) self.old.region) }
-        ensures refused { OnErr result ((self.new ≡ self.old) × (plan.new ≡ plan.old) × (client.new ≡ client.old)) }
-        ensures free { OnOk result (Ok tt ≡ latch_answer (not (is_back plan.old) && precheck) self.old.region) }
-        ensures made { OnOk result (IsSomeAnd plan.new.operation (λ o. (o.txn ≡ plan.old.txn) × IsBlockOf (plan_next plan.old) (call_key plan.old.call) o.block
-            × IsSoundOn self.old.region.words o.block × (self.new.region ≡ with_reads o.block.read (latched plan.old.txn self.old.region)))) }
-        ensures checked { is_back plan.old ≡ false → precheck ≡ true → OnOk result (self.old.region.stray ≡ 0) }
-        ensures same { (plan.new ≡ with_operation plan.old plan.new.operation) × (self.new.number ≡ self.old.number) }
-        ensures tells { OnOk result (Added (client_sight B.begun client.old ∷ region_sight B.begun self.old ∷ [])
-            (latch_item client.old.id self.old.number plan.old.txn self.new.region) client.new.seen) }
-        ensures sees { OnOk result ((client.new.id ≡ client.old.id) × (self.new.seen ≡ client.new.seen)) }
-        ensures at { IfOk result (λ step. (step ≡ self.new.steps) × IsAt self.old.number step plan.new.operation client.new.seen) }
-        ensures amid { OnOk result (Knows B.begun (IsAmid client.old.id self.old.number plan.new) client.new) }
-        ensures whole { IsWhole plan.old → OnOk result (IsWhole plan.new) }
-    {
-        self.latch_as::<Brand>(notes, client, plan, precheck)
-    }
-
-    // As `update`, with what is told.
-    fn update_as<D: RegionItem>(
-        &mut self,
-        notes: &Notes<Mark, OfRound<B>>,
-        client: &mut ClientNote<B>,
-        plan: &mut Plan,
-        at: u64,
-    ) -> u64
-        requires item { D.item ≡ word_item client.old.id self.old.number self.old.region }
-        requires home { notes.now.table ≡ B.begun.table }
-        requires last { at ≡ self.old.steps }
-        requires stood { IsAt self.old.number at plan.old.operation client.old.seen }
-        requires amid { Knows B.begun (IsAmid client.old.id self.old.number plan.old) client.old }
-        requires whole { IsWhole plan.old }
-        requires left { all_written plan.old.operation ≡ false }
-        requires room { self.old.steps < 18446744073709551615 }
-        ensures writes { WritesNext plan.old.operation self.old.region true plan.new.operation self.new.region }
-        ensures same { (plan.new ≡ with_operation plan.old plan.new.operation) × (self.new.number ≡ self.old.number) }
-        ensures tells { Added (client_sight B.begun client.old ∷ region_sight B.begun self.old ∷ [])
-            (word_item client.old.id self.old.number self.old.region self.new.region) client.new.seen }
-        ensures sees { (client.new.id ≡ client.old.id) × (self.new.seen ≡ client.new.seen) }
-        ensures at { (result ≡ self.new.steps) × IsAt self.old.number result plan.new.operation client.new.seen }
-        ensures amid { Knows B.begun (IsAmid client.old.id self.old.number plan.new) client.new }
-        ensures whole { IsWhole plan.new }
-    {
-        let _ = at;
-        notes.meet(&mut self.note, &mut client.note);
-        plan.update(&mut self.region);
-        notes.add_both::<Region, OfRegion<D>>(&mut client.note, &mut self.note, &self.region);
-        self.steps += 1;
-        self.steps
     }
 
     /// Writes the next word of the plan's operation, which stood here behind the step `at`, the last one. Answers the
@@ -299,11 +324,11 @@ impl<B: Beginning> LockedRegion<B> {
     pub fn update(
         &mut self,
         notes: &Notes<Mark, OfRound<B>>,
-        client: &mut ClientNote<B>,
+        client: &mut ClientNote<B, H>,
         plan: &mut Plan,
         at: u64,
     ) -> u64
-        requires home { notes.now.table ≡ B.begun.table }
+        requires home { notes.now.table ≡ H.table }
         requires last { at ≡ self.old.steps }
         requires stood { IsAt self.old.number at plan.old.operation client.old.seen }
         requires amid { Knows B.begun (IsAmid client.old.id self.old.number plan.old) client.old }
@@ -319,67 +344,18 @@ impl<B: Beginning> LockedRegion<B> {
         ensures amid { Knows B.begun (IsAmid client.old.id self.old.number plan.new) client.new }
         ensures whole { IsWhole plan.new }
     {
-        self.update_as::<Brand>(notes, client, plan, at)
-    }
-
-    // As `commit`, with what is told, where the transaction lives.
-    fn commit_as<D: RegionItem, E: RegionItem>(
-        &mut self,
-        notes: &Notes<Mark, OfRound<B>>,
-        client: &mut ClientNote<B>,
-        system: &mut LockedSystem<B>,
-        plan: &mut Plan,
-        at: u64,
-    ) -> Result<Receipt, SystemError>
-        requires item { D.item ≡ logged_item client.old.id (is_back plan.old) plan.old.txn plan.old.operation system.old.served.state }
-        requires freed { E.item ≡ freed_item client.old.id self.old.number }
-        requires lives { state_of system.old.served.state plan.old.txn ≡ Some Live }
-        requires home { notes.now.table ≡ B.begun.table }
-        requires last { at ≡ self.old.steps }
-        requires stood { IsAt self.old.number at plan.old.operation client.old.seen }
-        requires amid { Knows B.begun (IsAmid client.old.id self.old.number plan.old) client.old }
-        requires whole { IsWhole plan.old }
-        requires wants { region_in (plan_next plan.old) ≡ Some self.old.number }
-        requires written { all_written plan.old.operation ≡ true }
-        requires room { self.old.steps < 18446744073709551615 }
-        ensures onward { is_back plan.old ≡ false → OnOk result (IfSome plan.old.operation (λ o. (system.new.served ≡ record system.old.served { state = op_logged system.old.served.state plan.old.txn o.block })
-            × HasRoom system.old.served.state (Forward plan.old.txn o.block) × GoesOn plan.old o.block plan.new)) }
-        ensures back { is_back plan.old ≡ true → OnOk result (IfSome plan.old.operation (λ o. (system.new.served ≡ record system.old.served { state = back_logged system.old.served.state plan.old.txn o.block })
-            × (system.old.served.state.stop ≡ None) × (plan.new ≡ went_back plan.old))) }
-        ensures done { OnOk result ((self.new.region ≡ touched self.old.region) × (self.new.number ≡ self.old.number)) }
-        ensures number { IfOk result (λ receipt. receipt.number ≡ system.old.served.state.records) }
-        ensures tells { OnOk result (Added (client_sight B.begun client.old ∷ system_sight B.begun system.old ∷ region_sight B.begun self.old ∷ [])
-            (logged_item client.old.id (is_back plan.old) plan.old.txn plan.old.operation system.old.served.state self.new.region) client.new.seen) }
-        ensures sees { OnOk result ((client.new.id ≡ client.old.id) × (self.new.seen ≡ client.new.seen) × (system.new.seen ≡ client.new.seen)) }
-        ensures drives { OnOk result (Knows B.begun (Driving client.old.id plan.new) client.new) }
-        ensures receipt { IfOk result (λ receipt. Knows B.begun (HasLogged receipt.number (record_on (is_back plan.old) plan.old.txn plan.old.operation)) client.new) }
-        ensures err { OnErr result (HasGoneBack B.begun client.old self.old plan.old client.new self.new plan.new × (system.new ≡ system.old)) }
-        ensures refused { IfSome plan.old.operation (λ o. IfSome (commit_refusal (is_back plan.old) system.old.served.state (record_length (Forward plan.old.txn o.block))) (λ e. result ≡ Err e)) }
-        ensures memory { IfSome plan.old.operation (λ o. commit_refusal (is_back plan.old) system.old.served.state (record_length (Forward plan.old.txn o.block)) ≡ None → IfErr result (λ e. e ≡ Memory)) }
-    {
         let _ = at;
         notes.meet(&mut self.note, &mut client.note);
-        match plan.commit(&mut self.region, &mut system.system) {
-            Ok(receipt) => {
-                notes.add_three::<Region, OfRegion<D>>(
-                    &mut client.note,
-                    &mut system.note,
-                    &mut self.note,
-                    &self.region,
-                );
-                self.steps += 1;
-                Ok(receipt)
-            }
-            Err(cause) => {
-                notes.add_both::<Region, OfRegion<E>>(
-                    &mut client.note,
-                    &mut self.note,
-                    &self.region,
-                );
-                self.steps += 1;
-                Err(cause)
-            }
-        }
+        write::<B, Brand>(
+            notes,
+            &mut client.note,
+            &mut self.note,
+            (client.id, self.number),
+            &mut self.region,
+            plan,
+        );
+        self.steps += 1;
+        self.steps
     }
 
     /// Logs the plan's operation, which stood here behind the step `at`, the last one, and all of whose words are written.
@@ -388,12 +364,12 @@ impl<B: Beginning> LockedRegion<B> {
     pub fn commit(
         &mut self,
         notes: &Notes<Mark, OfRound<B>>,
-        client: &mut ClientNote<B>,
-        system: &mut LockedSystem<B>,
+        client: &mut ClientNote<B, H>,
+        system: &mut LockedSystem<B, H>,
         plan: &mut Plan,
         at: u64,
     ) -> Result<Receipt, LockedError>
-        requires home { notes.now.table ≡ B.begun.table }
+        requires home { notes.now.table ≡ H.table }
         requires last { at ≡ self.old.steps }
         requires stood { IsAt self.old.number at plan.old.operation client.old.seen }
         requires amid { Knows B.begun (IsAmid client.old.id self.old.number plan.old) client.old }
@@ -424,9 +400,34 @@ impl<B: Beginning> LockedRegion<B> {
             notes.meet(&mut system.note, &mut client.note);
             return Err(LockedError::Unfit);
         }
-        match self.commit_as::<Brand, Brand>(notes, client, system, plan, at) {
-            Ok(receipt) => Ok(receipt),
-            Err(cause) => Err(LockedError::System { cause }),
+        let _ = at;
+        notes.meet(&mut self.note, &mut client.note);
+        match log::<B, Brand>(
+            notes,
+            &mut client.note,
+            &mut system.note,
+            &mut self.note,
+            client.id,
+            &mut system.system,
+            &mut self.region,
+            plan,
+        ) {
+            Ok(receipt) => {
+                self.steps += 1;
+                return Ok(receipt);
+            }
+            Err(cause) => {
+                tell_both::<B, u32, Brand>(
+                    notes,
+                    &mut client.note,
+                    &mut self.note,
+                    client.id,
+                    &self.number,
+                    &self.region,
+                );
+                self.steps += 1;
+                return Err(LockedError::System { cause });
+            }
         }
     }
 
@@ -436,10 +437,10 @@ impl<B: Beginning> LockedRegion<B> {
     pub fn pass(
         &mut self,
         notes: &Notes<Mark, OfRound<B>>,
-        witness: &mut ClientNote<B>,
+        witness: &mut ClientNote<B, H>,
         begin: u64,
     ) -> Option<bool>
-        requires home { notes.now.table ≡ B.begun.table }
+        requires home { notes.now.table ≡ H.table }
         requires begun { Knows B.begun (IsOpenAudit begin) witness.old }
         requires room { begin < 18446744073709551615 }
         ensures some { IfSome result (λ right. right ≡ (self.old.region.stray == 0)) }

@@ -8,7 +8,7 @@ ghost use Rattle.dali_locked.specs.Begun.{Led, Of};
 ghost use Rattle.dali_locked.specs.Beginnings.{AreNew, BeginsWith};
 
 use crate::client::ClientNote;
-use crate::history::{Beginning, Mark, OfRound};
+use crate::history::{Beginning, Home, Mark, OfRound};
 use crate::locks::{Locks, RegionLock};
 use crate::region::LockedRegion;
 use crate::system::LockedSystem;
@@ -21,17 +21,18 @@ use dali_store::Store;
 use std::alloc::{AllocError, Global};
 
 // The clients of all notes but the first `kept`, whose numbers are below.
-fn share_clients<B: Beginning>(
+fn share_clients<B: Beginning, H: Home>(
     list: &mut Vec<Note<Mark, OfRound<B>>>,
-    clients: &mut Vec<ClientNote<B>>,
+    clients: &mut Vec<ClientNote<B, H>>,
     kept: u32,
 )
-    requires fresh { AreFresh B.begun.table 0 list.old.items }
+    requires fresh { AreFresh H.table 0 list.old.items }
     requires kept { (kept ≡ B.begun.count + 2) × (kept ≤ length list.old.items) }
     requires led { Led B.begun [] }
     requires room { (clients.old.items ≡ []) × (length list.old.items ≤ vec_capacity clients.old + kept) }
     requires small { length list.old.items < 4294967296 }
-    ensures fresh { AreFresh B.begun.table 0 list.new.items × (length list.new.items ≡ kept) }
+    ensures fresh { AreFresh H.table 0 list.new.items × (length list.new.items ≡ kept) }
+    ensures room { vec_capacity list.new ≡ vec_capacity list.old }
     ensures clients { AreNew kept kept (length list.old.items) clients.new.items }
 {
     while list.len() > kept as usize {
@@ -44,18 +45,21 @@ fn share_clients<B: Beginning>(
 }
 
 // The locks of the regions, the last one first, each with its note.
-fn share_regions<B: Beginning>(
+fn share_regions<B: Beginning, H: Home>(
     list: &mut Vec<Note<Mark, OfRound<B>>>,
-    mut regions: Vec<Region>,
-    locks: &mut Vec<RegionLock<B>>,
+    regions: &mut Vec<Region>,
+    locks: &mut Vec<RegionLock<B, H>>,
 )
-    requires fresh { AreFresh B.begun.table 0 list.old.items }
-    requires each { length list.old.items ≡ length regions.items + 2 }
+    requires fresh { AreFresh H.table 0 list.old.items }
+    requires each { length list.old.items ≡ length regions.old.items + 2 }
     requires led { Led B.begun [] }
-    requires told { (r : ℕ) (g : RegionState) → slice_get regions.items r ≡ Some g → Of B.begun (λ o T. RegionTold o r g T) [] }
-    requires room { (vec_len locks.old ≡ 0) × (length regions.items ≤ vec_capacity locks.old) }
+    requires told { (r : ℕ) (g : RegionState) → slice_get regions.old.items r ≡ Some g → Of B.begun (λ o T. RegionTold o r g T) [] }
+    requires room { (vec_len locks.old ≡ 0) × (length regions.old.items ≤ vec_capacity locks.old) }
     requires small { length list.old.items < 4294967296 }
-    ensures fresh { AreFresh B.begun.table 0 list.new.items × (length list.new.items ≡ 2) }
+    ensures fresh { AreFresh H.table 0 list.new.items × (length list.new.items ≡ 2) }
+    ensures none { regions.new.items ≡ [] }
+    ensures each { vec_len locks.new ≡ length regions.old.items }
+    ensures rooms { (vec_capacity regions.new ≡ vec_capacity regions.old) × (vec_capacity list.new ≡ vec_capacity list.old) }
 {
     while let Some(region) = regions.pop() {
         let Some(note) = list.pop() else {
@@ -68,19 +72,22 @@ fn share_regions<B: Beginning>(
 
 /// Shares a core among clients: each value goes behind a lock of its own, with one of the notes. There are as many clients as notes beside
 /// those of the values; they are handed out with their numbers, from 0 on, the highest first. It takes memory for the locks and the clients;
-/// where that is refused the core comes back as it was.
-pub fn share<B: Beginning + VaultBeginning<V>, V: Store, S: Schedule + Drop>(
+/// where that is refused the core comes back as it was. What the regions
+/// and the notes stood in is kept for `gather`.
+pub fn share<B: Beginning + VaultBeginning<V>, H: Home, V: Store, S: Schedule + Drop>(
     alloc: Global,
     notes: Notes<Mark, OfRound<B>>,
     list: Vec<Note<Mark, OfRound<B>>>,
     core: Core<V>,
     schedule: S,
-) -> Result<(Locks<B, V, S>, Vec<ClientNote<B>>), (Core<V>, AllocError)>
-    requires home { (notes.table ≡ B.begun.table) × AreFresh notes.table 0 list.items }
+) -> Result<(Locks<B, H, V, S>, Vec<ClientNote<B, H>>), (Core<V>, AllocError)>
+    requires home { (notes.table ≡ H.table) × AreFresh notes.table 0 list.items }
     requires many { (length core.regions.items + 2 ≤ length list.items) × (length list.items < 4294967296) }
+    requires all { length list.items ≡ notes.count }
     requires begins { BeginsWith V.Store B.begun core.regions.items core.system.state core.vault }
     requires began { (u : Vaulted V) → B.began u → u ≡ core.vault }
     requires stored { (u : Vaulted V) → B.began u → u ≡ core.vault }
+    ensures locks { IfOk result (λ made. made.0 ≡ notes) }
     ensures clients { IfOk result (λ made. AreNew (length core.regions.items + 2) (length core.regions.items + 2) (length list.items) made.1.items) }
     ensures err { IfErr result (λ e. e.0 ≡ core) }
 {
@@ -94,17 +101,21 @@ pub fn share<B: Beginning + VaultBeginning<V>, V: Store, S: Schedule + Drop>(
         Err(error) => return Err((core, error)),
     };
     let Core {
-        regions,
+        mut regions,
         system,
         vault,
     } = core;
     let first = system.first();
-    share_clients::<B>(&mut list, &mut clients, regions.len() as u32 + 2);
-    share_regions::<B>(&mut list, regions, &mut locks);
+    share_clients::<B, H>(&mut list, &mut clients, regions.len() as u32 + 2);
+    share_regions::<B, H>(&mut list, &mut regions, &mut locks);
     let (Some(of_vault), Some(of_system)) = (list.pop(), list.pop()) else {
         unreachable!()
     };
     let system = LockedSystem::new(system, of_system);
     let vault = LockedVault::new(alloc, vault, first, of_vault);
-    Ok((Locks::new(notes, schedule, system, locks, vault), clients))
+    let rooms = (regions, list);
+    Ok((
+        Locks::new(notes, schedule, system, locks, vault, rooms),
+        clients,
+    ))
 }

@@ -3,6 +3,7 @@ ghost use Rattle.std.specs.Prelude.{◌≡◌, ◌≤◌, ℕ, true, false, not,
 ghost use Rattle.std.specs.FinMap as map;
 ghost use Rattle.dali_geometry.specs.Places.{regions};
 ghost use Rattle.dali_record.specs.declared.records.Record.TheVariants.{Begin, Done, Commit, Ended, AuditBegin};
+ghost use Rattle.dali_record.specs.declared.records.Answer.{Answer as AnswerOf};
 ghost use Rattle.dali_record.specs.Legal.{dead_of};
 ghost use Rattle.dali_record.specs.Spelling.{record_length};
 ghost use Rattle.dali_locks.specs.Locks.{IsAnswer};
@@ -13,19 +14,20 @@ ghost use Rattle.dali_runs.specs.Steps.{begun, done_logged, commit_logged, ended
 ghost use Rattle.dali_runs.specs.Keeps.{moves_to};
 ghost use Rattle.dali_runs.specs.Courses.{Begins, Answers, Commits, Ends, AuditBegins, AuditEnds, Claims as ClaimsIt, GivesBack as GivesItBack};
 ghost use Rattle.dali_crash.specs.Checkpoints.{Does, Starts, Finishes};
-ghost use Rattle.dali_transcripts.specs.Words.{StoppedBy, UnderWay};
+ghost use Rattle.dali_transcripts.specs.Words.{StoppedBy, Full, UnderWay};
 ghost use Rattle.dali_transcripts.specs.World.{Logs, Claims, GivesBack, StartsCheckpoint, EndsCheckpoint, Meets, is_dead_in, is_claimed_in};
 ghost use Rattle.dali_notes.specs.History.{Added, AllMay, MayAdd};
 ghost use Rattle.dali_concurrent.specs.Entries.{Did, system_note};
 ghost use Rattle.dali_concurrent.specs.Told.{Leaves, OnSystem};
 ghost use Rattle.dali_concurrent.specs.Kept.{SystemTold};
+ghost use Rattle.dali_concurrent.specs.Stages.{Started};
 ghost use Rattle.dali_system.specs.Refused.{refusal, stop_refusal};
 ghost use Rattle.dali_system.specs.Audits.{audit_refusal};
 ghost use Rattle.dali_system.specs.Asked.{after_request};
 ghost use Rattle.dali_system.specs.Served.{promised_for};
 ghost use Rattle.dali_system.specs.Promised.{promised_to, used};
 ghost use Rattle.dali_system.specs.declared.want.Want.TheVariants.{Done as AnswerIsNext};
-ghost use Rattle.dali_system.specs.declared.error.SystemError.TheVariants.{OutOfMemory as Memory};
+ghost use Rattle.dali_system.specs.declared.error.SystemError.TheVariants.{OutOfMemory as Memory, LogFull};
 ghost use Rattle.dali_audit.specs.Findings.{AllPassed, damaged};
 ghost use Rattle.dali_audit.specs.declared.audit.Finding.TheVariants.{Waiting};
 ghost use Rattle.dali_calls.specs.Steps.{call_key, answer_of};
@@ -33,12 +35,14 @@ ghost use Rattle.dali_calls.specs.Plans.{mode_of, want_of, answered};
 ghost use Rattle.dali_calls.specs.Stepwise.Stepwise.{IsNew};
 ghost use Rattle.dali_locked.specs.Begun.{FromEach, Led, Of, may_add};
 ghost use Rattle.dali_locked.specs.Sights.{HasLogged, Knows};
-ghost use Rattle.dali_locked.specs.SystemSteps.{Resting, Asking, Driving, GoesOn, HasJust, Keeps, Takes, TakesClaim, LetsGo, LetsClaim, Settling, MayEnd, HasGone, Auditing, PassesTold, Cleaning, MayGiveBack, NotChecking, Checking, BothTell, IsTold};
+ghost use Rattle.dali_locked.specs.SystemSteps.{Resting, Asking, Driving, GoesOn, HasJust, Keeps, Takes, TakesClaim, LetsGo, LetsClaim, StaysAll, StaysBut, Settling, MayEnd, HasGone, Auditing, PassesTold, Cleaning, MayGiveBack, NotChecking, Checking, BothTell, IsTold};
+ghost use Rattle.dali_locked.specs.Dying.{IsIdle};
+ghost use Rattle.dali_locked.specs.HeadKept.{HasStage};
 ghost use Rattle.dali_locked.specs.declared.error.LockedError.TheVariants.{System as BySystem, Unfit};
 
 use crate::client::ClientNote;
 use crate::error::LockedError;
-use crate::history::{Beginning, Mark, OfRound};
+use crate::history::{Beginning, Home, Mark, OfRound};
 use dali_att::State;
 use dali_audit::{Audit, Verdict};
 use dali_calls::Plan;
@@ -53,12 +57,13 @@ use std::marker::{Brand, Model, PhantomData};
 
 /// The system, with its note.
 #[derive(Drop)]
-pub struct LockedSystem<B: Beginning> {
+pub struct LockedSystem<B: Beginning, H: Home> {
     pub(crate) system: System,
     pub(crate) note: Note<Mark, OfRound<B>>,
+    pub(crate) home: PhantomData<H>,
 }
 
-impl<B: Beginning> Model for LockedSystem<B> {
+impl<B: Beginning, H: Home> Model for LockedSystem<B, H> {
     ghost use Rattle.std.specs.Coded.{codes};
     ghost use Rattle.std.specs.Prelude.{◌≡◌};
     ghost use Rattle.dali_system.specs.Coded.{system_code};
@@ -74,208 +79,11 @@ impl<B: Beginning> Model for LockedSystem<B> {
 
     ghost view = { λ l. record { served = l.system; seen = l.note.seen } };
 
-    ghost invariant = { λ l. (l.note.table ≡ B.begun.table) × (l.note.number ≡ system_note) × Led B.begun l.note.seen
+    ghost invariant = { λ l. (l.note.table ≡ H.table) × (l.note.number ≡ system_note) × Led B.begun l.note.seen
         × Of B.begun (λ o T. SystemTold o l.system.state T) l.note.seen };
 }
 
-// What client and system tell of a step: by the client, what the step shows, and the system behind it.
-trait SystemStep<X> {
-    ghost use Rattle.std.specs.Prelude.{ℕ};
-    ghost use Rattle.dali_runs.specs.State.{SystemState};
-    ghost use Rattle.dali_concurrent.specs.Told.{Item};
-
-    ghost item: { (client : ℕ) → X → SystemState → Item };
-}
-
-// Its number is told.
-struct TellsBegin;
-
-impl SystemStep<u64> for TellsBegin {
-    ghost use Rattle.std.specs.Prelude.{[], ◌∷◌};
-    ghost use Rattle.dali_record.specs.declared.records.Record.TheVariants.{Begin};
-    ghost use Rattle.dali_runs.specs.Courses.{Begins};
-    ghost use Rattle.dali_crash.specs.Checkpoints.{Does};
-    ghost use Rattle.dali_transcripts.specs.World.{Logs};
-    ghost use Rattle.dali_concurrent.specs.Entries.{Did};
-    ghost use Rattle.dali_concurrent.specs.Told.{OnSystem};
-
-    ghost item = { λ c t y. (Did (Logs (Begin t)) c, OnSystem y, Does Begins ∷ []) };
-}
-
-struct TellsGrant;
-
-impl SystemStep<(u64, u64, Mode)> for TellsGrant {
-    ghost use Rattle.std.specs.Prelude.{[], ◌∷◌};
-    ghost use Rattle.dali_runs.specs.Courses.{Locks};
-    ghost use Rattle.dali_crash.specs.Checkpoints.{Does};
-    ghost use Rattle.dali_transcripts.specs.World.{GetsLock};
-    ghost use Rattle.dali_concurrent.specs.Entries.{Did};
-    ghost use Rattle.dali_concurrent.specs.Told.{OnSystem};
-
-    ghost item = { λ c x y. (Did (GetsLock x.0 x.1 x.2) c, OnSystem y, Does (Locks x.0 x.1 x.2) ∷ []) };
-}
-
-// A request that was refused, and whether the holder's client is dead.
-struct TellsRefusal;
-
-impl SystemStep<(Refusal, bool)> for TellsRefusal {
-    ghost use Rattle.std.specs.Prelude.{[], ◌∷◌};
-    ghost use Rattle.dali_runs.specs.Courses.{Refuses};
-    ghost use Rattle.dali_crash.specs.Checkpoints.{Does};
-    ghost use Rattle.dali_concurrent.specs.Entries.{Did};
-    ghost use Rattle.dali_concurrent.specs.Told.{OnSystem};
-    ghost use Rattle.dali_locked.specs.SystemSteps.{deed_of};
-
-    ghost item = { λ c x y. (Did (deed_of x.1 x.0) c, OnSystem y, Does (Refuses x.0.txn x.0.key x.0.mode x.0.holder) ∷ []) };
-}
-
-// The plan's answer.
-struct TellsAnswer;
-
-impl SystemStep<Plan> for TellsAnswer {
-    ghost use Rattle.std.specs.Prelude.{[], ◌∷◌};
-    ghost use Rattle.dali_record.specs.declared.records.Record.TheVariants.{Done};
-    ghost use Rattle.dali_runs.specs.Courses.{Answers};
-    ghost use Rattle.dali_crash.specs.Checkpoints.{Does};
-    ghost use Rattle.dali_transcripts.specs.World.{Logs};
-    ghost use Rattle.dali_concurrent.specs.Entries.{Did};
-    ghost use Rattle.dali_concurrent.specs.Told.{OnSystem};
-    ghost use Rattle.dali_locked.specs.SystemSteps.{given};
-
-    ghost item = { λ c p y. (Did (Logs (Done p.txn p.call (given p))) c, OnSystem y, Does (Answers p.txn p.call (given p)) ∷ []) };
-}
-
-struct TellsCommit;
-
-impl SystemStep<u64> for TellsCommit {
-    ghost use Rattle.std.specs.Prelude.{[], ◌∷◌};
-    ghost use Rattle.dali_record.specs.declared.records.Record.TheVariants.{Commit};
-    ghost use Rattle.dali_runs.specs.Courses.{Commits};
-    ghost use Rattle.dali_crash.specs.Checkpoints.{Does};
-    ghost use Rattle.dali_transcripts.specs.World.{Logs};
-    ghost use Rattle.dali_concurrent.specs.Entries.{Did};
-    ghost use Rattle.dali_concurrent.specs.Told.{OnSystem};
-
-    ghost item = { λ c t y. (Did (Logs (Commit t)) c, OnSystem y, Does (Commits t) ∷ []) };
-}
-
-struct TellsEnd;
-
-impl SystemStep<u64> for TellsEnd {
-    ghost use Rattle.std.specs.Prelude.{[], ◌∷◌};
-    ghost use Rattle.dali_record.specs.declared.records.Record.TheVariants.{Ended};
-    ghost use Rattle.dali_runs.specs.Courses.{Ends};
-    ghost use Rattle.dali_crash.specs.Checkpoints.{Does};
-    ghost use Rattle.dali_transcripts.specs.World.{Logs};
-    ghost use Rattle.dali_concurrent.specs.Entries.{Did};
-    ghost use Rattle.dali_concurrent.specs.Told.{OnSystem};
-
-    ghost item = { λ c t y. (Did (Logs (Ended t)) c, OnSystem y, Does (Ends t) ∷ []) };
-}
-
-struct TellsAuditBegin;
-
-impl SystemStep<Audit> for TellsAuditBegin {
-    ghost use Rattle.std.specs.Prelude.{[], ◌∷◌};
-    ghost use Rattle.dali_record.specs.declared.records.Record.TheVariants.{AuditBegin};
-    ghost use Rattle.dali_runs.specs.Courses.{AuditBegins};
-    ghost use Rattle.dali_crash.specs.Checkpoints.{Does};
-    ghost use Rattle.dali_transcripts.specs.World.{Logs};
-    ghost use Rattle.dali_concurrent.specs.Entries.{Did};
-    ghost use Rattle.dali_concurrent.specs.Told.{OnSystem};
-
-    ghost item = { λ c a y. (Did (Logs AuditBegin) c, OnSystem y, Does AuditBegins ∷ []) };
-}
-
-struct TellsAuditEnd;
-
-impl SystemStep<Verdict> for TellsAuditEnd {
-    ghost use Rattle.std.specs.Prelude.{[], ◌∷◌};
-    ghost use Rattle.dali_runs.specs.Courses.{AuditEnds};
-    ghost use Rattle.dali_runs.specs.Steps.{audit_record};
-    ghost use Rattle.dali_crash.specs.Checkpoints.{Does};
-    ghost use Rattle.dali_transcripts.specs.World.{Logs};
-    ghost use Rattle.dali_concurrent.specs.Entries.{Did};
-    ghost use Rattle.dali_concurrent.specs.Told.{OnSystem};
-
-    ghost item = { λ c v y. (Did (Logs (audit_record v.begin v.failing)) c, OnSystem y, Does (AuditEnds v.begin v.failing) ∷ []) };
-}
-
-struct TellsClaim;
-
-impl SystemStep<u64> for TellsClaim {
-    ghost use Rattle.std.specs.Prelude.{[], ◌∷◌};
-    ghost use Rattle.dali_runs.specs.Courses.{Claims as ClaimsIt};
-    ghost use Rattle.dali_crash.specs.Checkpoints.{Does};
-    ghost use Rattle.dali_transcripts.specs.World.{Claims};
-    ghost use Rattle.dali_concurrent.specs.Entries.{Did};
-    ghost use Rattle.dali_concurrent.specs.Told.{OnSystem};
-
-    ghost item = { λ c t y. (Did (Claims t) c, OnSystem y, Does (ClaimsIt t) ∷ []) };
-}
-
-struct TellsGiveBack;
-
-impl SystemStep<u64> for TellsGiveBack {
-    ghost use Rattle.std.specs.Prelude.{[], ◌∷◌, None};
-    ghost use Rattle.dali_runs.specs.Courses.{GivesBack as GivesItBack};
-    ghost use Rattle.dali_crash.specs.Checkpoints.{Does};
-    ghost use Rattle.dali_transcripts.specs.World.{GivesBack};
-    ghost use Rattle.dali_concurrent.specs.Entries.{Did};
-    ghost use Rattle.dali_concurrent.specs.Told.{OnSystem};
-
-    ghost item = { λ c t y. (Did (GivesBack t None) c, OnSystem y, Does (GivesItBack t None) ∷ []) };
-}
-
-struct TellsCheckpointStart;
-
-impl SystemStep<()> for TellsCheckpointStart {
-    ghost use Rattle.std.specs.Prelude.{[], ◌∷◌};
-    ghost use Rattle.dali_crash.specs.Checkpoints.{Starts};
-    ghost use Rattle.dali_transcripts.specs.World.{StartsCheckpoint};
-    ghost use Rattle.dali_concurrent.specs.Entries.{Did};
-    ghost use Rattle.dali_concurrent.specs.Told.{OnSystem};
-
-    ghost item = { λ c x y. (Did StartsCheckpoint c, OnSystem y, Starts ∷ []) };
-}
-
-struct TellsCheckpointEnd;
-
-impl SystemStep<()> for TellsCheckpointEnd {
-    ghost use Rattle.std.specs.Prelude.{[], ◌∷◌};
-    ghost use Rattle.dali_crash.specs.Checkpoints.{Finishes};
-    ghost use Rattle.dali_transcripts.specs.World.{EndsCheckpoint};
-    ghost use Rattle.dali_concurrent.specs.Entries.{Did};
-    ghost use Rattle.dali_concurrent.specs.Told.{OnSystem};
-
-    ghost item = { λ c x y. (Did EndsCheckpoint c, OnSystem y, Finishes ∷ []) };
-}
-
-struct TellsMeeting;
-
-impl SystemStep<()> for TellsMeeting {
-    ghost use Rattle.std.specs.Prelude.{[]};
-    ghost use Rattle.dali_transcripts.specs.Words.{UnderWay};
-    ghost use Rattle.dali_transcripts.specs.World.{Meets};
-    ghost use Rattle.dali_concurrent.specs.Entries.{Did};
-    ghost use Rattle.dali_concurrent.specs.Told.{Leaves};
-
-    ghost item = { λ c x y. (Did (Meets UnderWay) c, Leaves, []) };
-}
-
-struct TellsStop;
-
-impl SystemStep<Cause> for TellsStop {
-    ghost use Rattle.std.specs.Prelude.{[]};
-    ghost use Rattle.dali_transcripts.specs.Words.{StoppedBy};
-    ghost use Rattle.dali_transcripts.specs.World.{Meets};
-    ghost use Rattle.dali_concurrent.specs.Entries.{Did};
-    ghost use Rattle.dali_concurrent.specs.Told.{Leaves};
-
-    ghost item = { λ c cause y. (Did (Meets (StoppedBy cause)) c, Leaves, []) };
-}
-
-// One of these. Each call picks it.
+// What client and system tell of a step. Each call picks it.
 trait Chosen {
     ghost use Rattle.dali_concurrent.specs.Told.{Item};
 
@@ -296,7 +104,8 @@ impl<X, C: Chosen> Tells<X, Mark> for OfChoice<C> {
     ghost entry = { λ x. C.item };
 }
 
-fn sign<B: Beginning, X, C: Chosen>(
+// Client and system tell what was done to the system, which is picked by the client, by what the step shows and by the system behind it.
+fn tell<B: Beginning, X, C: Chosen>(
     notes: &Notes<Mark, OfRound<B>>,
     client: &mut Note<Mark, OfRound<B>>,
     system: &mut Note<Mark, OfRound<B>>,
@@ -314,25 +123,6 @@ fn sign<B: Beginning, X, C: Chosen>(
     let _ = id;
     let _ = after;
     notes.add_both::<X, OfChoice<C>>(client, system, about);
-}
-
-// Client and system tell what was done to the system.
-fn tell<B: Beginning, X, S: SystemStep<X>>(
-    notes: &Notes<Mark, OfRound<B>>,
-    client: &mut Note<Mark, OfRound<B>>,
-    system: &mut Note<Mark, OfRound<B>>,
-    id: u32,
-    about: &X,
-    after: &System,
-)
-    requires tables { (client.old.table ≡ notes.now.table) × (system.old.table ≡ notes.now.table) }
-    requires may { MayAdd (may_add B.begun) (client.old ∷ system.old ∷ []) (S.item id about.now after.now.state) }
-    ensures client { (client.new.number ≡ client.old.number) × (client.new.table ≡ client.old.table) }
-    ensures system { system.new ≡ record system.old { seen = client.new.seen } }
-    ensures added { Added (client.old ∷ system.old ∷ []) (S.item id about.now after.now.state) client.new.seen }
-    ensures all { AllMay (may_add B.begun) client.new.seen }
-{
-    sign::<B, X, Brand>(notes, client, system, id, about, after);
 }
 
 // Whether the client is dead of the transaction that stands so.
@@ -381,15 +171,33 @@ fn log_commit(
     Ok((removed, receipt))
 }
 
-impl<B: Beginning> LockedSystem<B> {
+impl<B: Beginning, H: Home> LockedSystem<B, H> {
     /// The system where the notes are made.
-    pub fn new(system: System, note: Note<Mark, OfRound<B>>) -> LockedSystem<B>
-        requires note { (note.table ≡ B.begun.table) × (note.number ≡ system_note) }
+    pub fn new(system: System, note: Note<Mark, OfRound<B>>) -> LockedSystem<B, H>
+        requires note { (note.table ≡ H.table) × (note.number ≡ system_note) }
         requires led { Led B.begun note.seen }
         requires told { Of B.begun (λ o T. SystemTold o system.state T) note.seen }
         ensures { result ≡ record { served = system; seen = note.seen } }
     {
-        LockedSystem { system, note }
+        LockedSystem {
+            system,
+            note,
+            home: PhantomData,
+        }
+    }
+
+    /// The system, and its note.
+    pub fn into_parts(self) -> (System, Note<Mark, OfRound<B>>)
+        ensures parts { (result.0 ≡ self.served) × (result.1.seen ≡ self.seen) }
+        ensures note { (result.1.table ≡ H.table) × (result.1.number ≡ system_note) × Led B.begun result.1.seen }
+        ensures told { Of B.begun (λ o T. SystemTold o result.0.state T) result.1.seen }
+    {
+        let LockedSystem {
+            system,
+            note,
+            home: _,
+        } = self;
+        (system, note)
     }
 
     /// The client begins a transaction, whose number is answered with that of its record. Refused as any record that uses room;
@@ -397,9 +205,9 @@ impl<B: Beginning> LockedSystem<B> {
     pub fn begin(
         &mut self,
         notes: &Notes<Mark, OfRound<B>>,
-        client: &mut ClientNote<B>,
+        client: &mut ClientNote<B, H>,
     ) -> Result<(u64, Receipt), SystemError>
-        requires home { notes.now.table ≡ B.begun.table }
+        requires home { notes.now.table ≡ H.table }
         ensures number { IfOk result (λ given. (given.0 ≡ self.old.served.state.next) × (given.1.number ≡ self.old.served.state.records)) }
         ensures system { OnOk result (self.new.served ≡ record self.old.served { state = begun self.old.served.state }) }
         ensures tells { IfOk result (λ given. BothTell B.begun client.old self.old
@@ -412,7 +220,7 @@ impl<B: Beginning> LockedSystem<B> {
         ensures memory { refusal self.old.served.state 9 ≡ None → IfErr result (λ e. e ≡ Memory) }
     {
         let (txn, receipt) = self.system.begin()?;
-        tell::<B, u64, TellsBegin>(
+        tell::<B, u64, Brand>(
             notes,
             &mut client.note,
             &mut self.note,
@@ -428,10 +236,10 @@ impl<B: Beginning> LockedSystem<B> {
     pub fn request(
         &mut self,
         notes: &Notes<Mark, OfRound<B>>,
-        client: &mut ClientNote<B>,
+        client: &mut ClientNote<B, H>,
         plan: &Plan,
     ) -> Result<LockAnswer, SystemError>
-        requires home { notes.now.table ≡ B.begun.table }
+        requires home { notes.now.table ≡ H.table }
         requires fresh { IsNew plan.now }
         requires asks { Knows B.begun (Asking client.old.id plan.now) client.old }
         requires only { Knows B.begun (HasJust client.old.id (Some plan.now.txn) None) client.old }
@@ -452,7 +260,7 @@ impl<B: Beginning> LockedSystem<B> {
         match answer {
             LockAnswer::Granted => {
                 let asked = (txn, key, mode);
-                tell::<B, (u64, u64, Mode), TellsGrant>(
+                tell::<B, (u64, u64, Mode), Brand>(
                     notes,
                     &mut client.note,
                     &mut self.note,
@@ -473,7 +281,7 @@ impl<B: Beginning> LockedSystem<B> {
                 };
                 let dead = is_dead(self.system.state(holder));
                 let hindered = (refusal, dead);
-                tell::<B, (Refusal, bool), TellsRefusal>(
+                tell::<B, (Refusal, bool), Brand>(
                     notes,
                     &mut client.note,
                     &mut self.note,
@@ -491,10 +299,10 @@ impl<B: Beginning> LockedSystem<B> {
     pub fn done(
         &mut self,
         notes: &Notes<Mark, OfRound<B>>,
-        client: &mut ClientNote<B>,
+        client: &mut ClientNote<B, H>,
         plan: &mut Plan,
     ) -> Result<(Answer, Receipt), SystemError>
-        requires home { notes.now.table ≡ B.begun.table }
+        requires home { notes.now.table ≡ H.table }
         requires wants { want_of plan.old ≡ AnswerIsNext }
         requires drives { Knows B.begun (Driving client.old.id plan.old) client.old }
         ensures answer { IfOk result (λ given. (answer_of plan.old.geometry plan.old.call plan.old.stage ≡ Some given.0) × (plan.new ≡ answered plan.old)) }
@@ -516,7 +324,7 @@ impl<B: Beginning> LockedSystem<B> {
     {
         let _whole = plan.wants();
         let (answer, receipt) = plan.done(&mut self.system)?;
-        tell::<B, Plan, TellsAnswer>(
+        tell::<B, Plan, Brand>(
             notes,
             &mut client.note,
             &mut self.note,
@@ -532,11 +340,11 @@ impl<B: Beginning> LockedSystem<B> {
     pub fn commit(
         &mut self,
         notes: &Notes<Mark, OfRound<B>>,
-        client: &mut ClientNote<B>,
+        client: &mut ClientNote<B, H>,
         alloc: Global,
         txn: u64,
     ) -> Result<(Vec<Pending>, Receipt), LockedError>
-        requires home { notes.now.table ≡ B.begun.table }
+        requires home { notes.now.table ≡ H.table }
         requires rests { Knows B.begun (Resting client.old.id txn) client.old }
         ensures removals { IfOk result (λ given. given.0.items ≡ dead_of (undos_at self.old.served.state.table txn)) }
         ensures number { IfOk result (λ given. given.1.number ≡ self.old.served.state.records) }
@@ -567,7 +375,7 @@ impl<B: Beginning> LockedSystem<B> {
             Ok(given) => given,
             Err(cause) => return Err(LockedError::System { cause }),
         };
-        tell::<B, u64, TellsCommit>(
+        tell::<B, u64, Brand>(
             notes,
             &mut client.note,
             &mut self.note,
@@ -583,10 +391,10 @@ impl<B: Beginning> LockedSystem<B> {
     pub fn ended(
         &mut self,
         notes: &Notes<Mark, OfRound<B>>,
-        client: &mut ClientNote<B>,
+        client: &mut ClientNote<B, H>,
         txn: u64,
     ) -> Result<Receipt, SystemError>
-        requires home { notes.now.table ≡ B.begun.table }
+        requires home { notes.now.table ≡ H.table }
         requires may { Knows B.begun (MayEnd client.old.id txn) client.old }
         ensures number { IfOk result (λ given. given.number ≡ self.old.served.state.records) }
         ensures system { OnOk result (self.new.served ≡ record { state = ended_logged self.old.served.state txn; promised = map.remove self.old.served.promised txn }) }
@@ -594,6 +402,7 @@ impl<B: Beginning> LockedSystem<B> {
             (Did (Logs (Ended txn)) client.old.id, OnSystem self.new.served.state, Does (Ends txn) ∷ []) client.new self.new) }
         ensures gone { OnOk result (Knows B.begun (HasGone txn) client.new) }
         ensures lets { OnOk result (LetsGo B.begun client.old txn client.new × LetsClaim B.begun client.old txn client.new) }
+        ensures beside { OnOk result (StaysBut B.begun client.old txn client.new) }
         ensures receipt { IfOk result (λ given. Knows B.begun (HasLogged given.number (Ended txn)) client.new) }
         ensures err { OnErr result ((client.new ≡ client.old) × (self.new ≡ self.old)) }
         ensures refused { IfSome (stop_refusal self.old.served.state) (λ e. result ≡ Err e) }
@@ -601,7 +410,7 @@ impl<B: Beginning> LockedSystem<B> {
         ensures promised { stop_refusal self.old.served.state ≡ None → 9 ≤ promised_to self.old.served.promised txn → IsOk result }
     {
         let receipt = self.system.ended(txn)?;
-        tell::<B, u64, TellsEnd>(
+        tell::<B, u64, Brand>(
             notes,
             &mut client.note,
             &mut self.note,
@@ -617,10 +426,10 @@ impl<B: Beginning> LockedSystem<B> {
     pub fn begin_audit(
         &mut self,
         notes: &Notes<Mark, OfRound<B>>,
-        client: &mut ClientNote<B>,
+        client: &mut ClientNote<B, H>,
         alloc: Global,
     ) -> Result<Audit, SystemError>
-        requires home { notes.now.table ≡ B.begun.table }
+        requires home { notes.now.table ≡ H.table }
         ensures audit { IfOk result (λ audit. audit ≡ record { begin = self.old.served.state.records; findings = replicate (regions self.old.served.state.sizes) Waiting }) }
         ensures system { OnOk result (self.new.served ≡ record self.old.served { state = audit_begun self.old.served.state }) }
         ensures tells { OnOk result (BothTell B.begun client.old self.old
@@ -633,12 +442,12 @@ impl<B: Beginning> LockedSystem<B> {
         ensures memory { audit_refusal self.old.served.state AuditBegin ≡ None → IfErr result (λ e. e ≡ Memory) }
     {
         let audit = Audit::begin(alloc, &mut self.system)?;
-        tell::<B, Audit, TellsAuditBegin>(
+        tell::<B, (), Brand>(
             notes,
             &mut client.note,
             &mut self.note,
             client.id,
-            &audit,
+            &(),
             &self.system,
         );
         Ok(audit)
@@ -649,10 +458,10 @@ impl<B: Beginning> LockedSystem<B> {
     pub fn end_audit(
         &mut self,
         notes: &Notes<Mark, OfRound<B>>,
-        client: &mut ClientNote<B>,
+        client: &mut ClientNote<B, H>,
         audit: Audit,
     ) -> Result<Verdict, SystemError>
-        requires home { notes.now.table ≡ B.begun.table }
+        requires home { notes.now.table ≡ H.table }
         requires passed { AllPassed audit.findings }
         requires audits { Knows B.begun (Auditing client.old.id audit.begin) client.old }
         requires told { Knows B.begun (PassesTold audit.begin audit.findings) client.old }
@@ -671,7 +480,7 @@ impl<B: Beginning> LockedSystem<B> {
     {
         let _few = audit.waits(0);
         let verdict = audit.end(&mut self.system)?;
-        tell::<B, Verdict, TellsAuditEnd>(
+        tell::<B, Verdict, Brand>(
             notes,
             &mut client.note,
             &mut self.note,
@@ -687,21 +496,24 @@ impl<B: Beginning> LockedSystem<B> {
     pub fn claim(
         &mut self,
         notes: &Notes<Mark, OfRound<B>>,
-        client: &mut ClientNote<B>,
+        client: &mut ClientNote<B, H>,
         txn: u64,
     ) -> Result<Option<u32>, NotDead>
-        requires home { notes.now.table ≡ B.begun.table }
+        requires home { notes.now.table ≡ H.table }
         ensures dead { IfOk result (λ latched. state_of self.old.served.state txn ≡ Some (Dead latched)) }
         ensures system { IfOk result (λ latched. self.new.served ≡ record self.old.served { state = in_state self.old.served.state txn (IsCleaning latched) }) }
         ensures tells { OnOk result (BothTell B.begun client.old self.old
             (Did (Claims txn) client.old.id, OnSystem self.new.served.state, Does (ClaimsIt txn) ∷ []) client.new self.new) }
+        ensures idle { OnOk result (Knows B.begun (IsIdle txn) client.new) }
+        ensures clear { IfOk result (λ latched. latched ≡ None → Knows B.begun (MayGiveBack client.old.id txn) client.new) }
         ensures cleans { IfOk result (λ latched. Knows B.begun (Cleaning client.old.id txn latched) client.new) }
         ensures takes { OnOk result (TakesClaim B.begun client.old txn client.new) }
+        ensures beside { OnOk result (StaysBut B.begun client.old txn client.new) }
         ensures err { OnErr result ((client.new ≡ client.old) × (self.new ≡ self.old)) }
         ensures not_dead { OnErr result ((latched : OptionOf ℕ) → state_of self.old.served.state txn ≡ Some (Dead latched) → ⊥) }
     {
         let latched = self.system.claim(txn)?;
-        tell::<B, u64, TellsClaim>(
+        tell::<B, u64, Brand>(
             notes,
             &mut client.note,
             &mut self.note,
@@ -716,15 +528,16 @@ impl<B: Beginning> LockedSystem<B> {
     pub fn give_back(
         &mut self,
         notes: &Notes<Mark, OfRound<B>>,
-        client: &mut ClientNote<B>,
+        client: &mut ClientNote<B, H>,
         txn: u64,
     ) -> Result<(), LockedError>
-        requires home { notes.now.table ≡ B.begun.table }
+        requires home { notes.now.table ≡ H.table }
         requires may { Knows B.begun (MayGiveBack client.old.id txn) client.old }
         ensures system { OnOk result (self.new.served ≡ record self.old.served { state = in_state self.old.served.state txn (Dead None) }) }
         ensures tells { OnOk result (BothTell B.begun client.old self.old
             (Did (GivesBack txn None) client.old.id, OnSystem self.new.served.state, Does (GivesItBack txn None) ∷ []) client.new self.new) }
         ensures lets { OnOk result (LetsClaim B.begun client.old txn client.new) }
+        ensures beside { OnOk result (StaysBut B.begun client.old txn client.new) }
         ensures err { OnErr result ((client.new ≡ client.old) × (self.new.served ≡ self.old.served)) }
         ensures unfit { IfErr result (λ e. (e ≡ Unfit) × FromEach B.begun (λ s p. ⊥)) }
     {
@@ -733,7 +546,7 @@ impl<B: Beginning> LockedSystem<B> {
             return Err(LockedError::Unfit);
         }
         self.system.mark_dead(txn, None);
-        tell::<B, u64, TellsGiveBack>(
+        tell::<B, u64, Brand>(
             notes,
             &mut client.note,
             &mut self.note,
@@ -749,35 +562,36 @@ impl<B: Beginning> LockedSystem<B> {
     pub fn start_checkpoint(
         &mut self,
         notes: &Notes<Mark, OfRound<B>>,
-        client: &mut ClientNote<B>,
+        client: &mut ClientNote<B, H>,
     ) -> bool
-        requires home { notes.now.table ≡ B.begun.table }
+        requires home { notes.now.table ≡ H.table }
         requires idle { Knows B.begun (NotChecking client.old.id) client.old }
         ensures was { result ≡ not self.old.served.state.checking }
         ensures system { self.new.served ≡ record self.old.served { state = in_checkpoint self.old.served.state true } }
         ensures starts { result ≡ true → BothTell B.begun client.old self.old (Did StartsCheckpoint client.old.id, OnSystem self.new.served.state, Starts ∷ []) client.new self.new }
         ensures meets { result ≡ false → BothTell B.begun client.old self.old (Did (Meets UnderWay) client.old.id, Leaves, []) client.new self.new }
         ensures checks { result ≡ true → Knows B.begun (Checking client.old.id) client.new }
+        ensures stage { result ≡ true → Knows B.begun (HasStage client.old.id Started) client.new }
         ensures still { result ≡ false → Knows B.begun (NotChecking client.old.id) client.new }
         ensures keeps { Keeps B.begun client.old client.new }
     {
         let started = self.system.start_copy();
         if started {
-            tell::<B, (), TellsCheckpointStart>(
+            tell::<B, bool, Brand>(
                 notes,
                 &mut client.note,
                 &mut self.note,
                 client.id,
-                &(),
+                &true,
                 &self.system,
             );
         } else {
-            tell::<B, (), TellsMeeting>(
+            tell::<B, bool, Brand>(
                 notes,
                 &mut client.note,
                 &mut self.note,
                 client.id,
-                &(),
+                &false,
                 &self.system,
             );
         }
@@ -785,8 +599,8 @@ impl<B: Beginning> LockedSystem<B> {
     }
 
     /// The client's checkpoint ends. It takes no memory.
-    pub fn end_checkpoint(&mut self, notes: &Notes<Mark, OfRound<B>>, client: &mut ClientNote<B>)
-        requires home { notes.now.table ≡ B.begun.table }
+    pub fn end_checkpoint(&mut self, notes: &Notes<Mark, OfRound<B>>, client: &mut ClientNote<B, H>)
+        requires home { notes.now.table ≡ H.table }
         requires checks { Knows B.begun (Checking client.old.id) client.old }
         ensures system { self.new.served ≡ record self.old.served { state = in_checkpoint self.old.served.state false } }
         ensures tells { BothTell B.begun client.old self.old (Did EndsCheckpoint client.old.id, OnSystem self.new.served.state, Finishes ∷ []) client.new self.new }
@@ -794,7 +608,7 @@ impl<B: Beginning> LockedSystem<B> {
         ensures keeps { Keeps B.begun client.old client.new }
     {
         self.system.end_copy();
-        tell::<B, (), TellsCheckpointEnd>(
+        tell::<B, (), Brand>(
             notes,
             &mut client.note,
             &mut self.note,
@@ -808,17 +622,18 @@ impl<B: Beginning> LockedSystem<B> {
     pub fn meet_stop(
         &mut self,
         notes: &Notes<Mark, OfRound<B>>,
-        client: &mut ClientNote<B>,
+        client: &mut ClientNote<B, H>,
     ) -> Option<Cause>
-        requires home { notes.now.table ≡ B.begun.table }
+        requires home { notes.now.table ≡ H.table }
         ensures cause { result ≡ self.old.served.state.stop }
         ensures system { self.new.served ≡ self.old.served }
         ensures meets { IfSome result (λ cause. BothTell B.begun client.old self.old (Did (Meets (StoppedBy cause)) client.old.id, Leaves, []) client.new self.new) }
         ensures runs { result ≡ None → (client.new ≡ client.old) × (self.new ≡ self.old) }
         ensures keeps { Keeps B.begun client.old client.new }
+        ensures stays { StaysAll B.begun client.old client.new }
     {
         let cause = self.system.stopped()?;
-        tell::<B, Cause, TellsStop>(
+        tell::<B, Cause, Brand>(
             notes,
             &mut client.note,
             &mut self.note,
@@ -827,5 +642,85 @@ impl<B: Beginning> LockedSystem<B> {
             &self.system,
         );
         Some(cause)
+    }
+    /// The client meets a log that has no room for the begin of a transaction. It takes no memory.
+    pub fn meet_full_begin(
+        &mut self,
+        notes: &Notes<Mark, OfRound<B>>,
+        client: &mut ClientNote<B, H>,
+        end: u64,
+        limit: u64,
+    )
+        requires home { notes.now.table ≡ H.table }
+        requires full { refusal self.old.served.state 9 ≡ Some (LogFull end limit) }
+        ensures system { self.new.served ≡ self.old.served }
+        ensures meets { BothTell B.begun client.old self.old (Did (Meets (Full end limit)) client.old.id, Leaves, []) client.new self.new }
+        ensures keeps { Keeps B.begun client.old client.new }
+    {
+        let room = (end, limit);
+        tell::<B, (u64, u64), Brand>(
+            notes,
+            &mut client.note,
+            &mut self.note,
+            client.id,
+            &room,
+            &self.system,
+        );
+    }
+
+    /// So it meets one that has none for its plan's answer. It takes no memory.
+    pub fn meet_full_answer(
+        &mut self,
+        notes: &Notes<Mark, OfRound<B>>,
+        client: &mut ClientNote<B, H>,
+        plan: &Plan,
+        end: u64,
+        limit: u64,
+    )
+        requires home { notes.now.table ≡ H.table }
+        requires wants { want_of plan.now ≡ AnswerIsNext }
+        requires drives { Knows B.begun (Driving client.old.id plan.now) client.old }
+        requires full { (a : AnswerOf) × (answer_of plan.now.geometry plan.now.call plan.now.stage ≡ Some a)
+            × (refusal self.old.served.state (record_length (Done plan.now.txn plan.now.call a)) ≡ Some (LogFull end limit)) }
+        ensures system { self.new.served ≡ self.old.served }
+        ensures meets { BothTell B.begun client.old self.old (Did (Meets (Full end limit)) client.old.id, Leaves, []) client.new self.new }
+        ensures keeps { Keeps B.begun client.old client.new }
+        ensures stays { StaysAll B.begun client.old client.new }
+    {
+        let _whole = plan.wants();
+        let room = (end, limit);
+        tell::<B, (u64, u64), Brand>(
+            notes,
+            &mut client.note,
+            &mut self.note,
+            client.id,
+            &room,
+            &self.system,
+        );
+    }
+
+    /// And one that has none for the begin of an audit, whose limit is larger. It takes no memory.
+    pub fn meet_full_audit(
+        &mut self,
+        notes: &Notes<Mark, OfRound<B>>,
+        client: &mut ClientNote<B, H>,
+        end: u64,
+        limit: u64,
+    )
+        requires home { notes.now.table ≡ H.table }
+        requires full { audit_refusal self.old.served.state AuditBegin ≡ Some (LogFull end limit) }
+        ensures system { self.new.served ≡ self.old.served }
+        ensures meets { BothTell B.begun client.old self.old (Did (Meets (Full end limit)) client.old.id, Leaves, []) client.new self.new }
+        ensures keeps { Keeps B.begun client.old client.new }
+    {
+        let room = (end, limit);
+        tell::<B, (u64, u64), Brand>(
+            notes,
+            &mut client.note,
+            &mut self.note,
+            client.id,
+            &room,
+            &self.system,
+        );
     }
 }

@@ -2,19 +2,19 @@
 ghost use Rattle.std.specs.Prelude.{◌≡◌, ◌≤◌, ◌<◌, ◌+◌, ◌^◌, true, false, Err, OnOk, OnErr, IfOk, IfErr};
 ghost use Rattle.dali_log.specs.Batch.{Framed};
 ghost use Rattle.dali_runs.specs.State.{taken_to, stable};
-ghost use Rattle.dali_runs.specs.Steps.{store_stopped};
+ghost use Rattle.dali_runs.specs.Steps.{store_stopped, taken};
 ghost use Rattle.dali_core.specs.Vault.Vaulted.{Vaulted};
 ghost use Rattle.dali_core.specs.declared.vault.error.VaultError.TheVariants.{Fault, Stopped};
 ghost use Rattle.dali_notes.specs.History.{IsSeen};
 ghost use Rattle.dali_concurrent.specs.Entries.{client_note};
 ghost use Rattle.dali_concurrent.specs.Told.{core_told};
 ghost use Rattle.dali_locked.specs.declared.vault.FlushError.TheVariants.{Store as OfStore};
-ghost use Rattle.dali_locked.specs.Begun.{FromEach, Of, outset};
+ghost use Rattle.dali_locked.specs.Begun.{FromEach, Of, outset, homed};
 ghost use Rattle.dali_locked.specs.Sights.{Knows};
 ghost use Rattle.dali_locked.specs.Vaults.{HasFrame, HasWritten, HasFault, IsTold, IsVaultNote, IsLogged, IsDurable, AllAreTaken, AllAreDurable, HasStopped, SeesFault};
 
 use crate::client::ClientNote;
-use crate::history::{Beginning, Mark, OfRound};
+use crate::history::{Beginning, Home, Mark, OfRound};
 use crate::system::LockedSystem;
 use dali_bytes::OutOfMemory;
 use dali_core::steps::called;
@@ -43,14 +43,16 @@ impl<V> VaultBeginning<V> for Brand {
 
 /// The vault, with its note, how many records stood when the system was made, and where the memory for a frame comes from.
 #[derive(Drop)]
-pub struct LockedVault<B: Beginning + VaultBeginning<V>, V: Store> {
-    vault: Vault<V>,
+pub struct LockedVault<B: Beginning + VaultBeginning<V>, H: Home, V: Store> {
+    pub(crate) vault: Vault<V>,
     first: u64,
-    alloc: Global,
-    note: Note<Mark, OfRound<B>>,
+    pub(crate) alloc: Global,
+    pub(crate) note: Note<Mark, OfRound<B>>,
+    pub(crate) home: PhantomData<H>,
 }
 
-impl<B: Beginning + VaultBeginning<V>, V: Store> Model for LockedVault<B, V> {
+impl<B: Beginning + VaultBeginning<V>, H: Home, V: Store> Model for LockedVault<B, H, V> {
+    ghost use Rattle.dali_locked.specs.Begun.{homed};
     ghost use Rattle.std.specs.Coded.{codes};
     ghost use Rattle.std.specs.Prelude.{◌≡◌};
     ghost use Rattle.dali_system.specs.Coded.{system_code};
@@ -65,7 +67,7 @@ impl<B: Beginning + VaultBeginning<V>, V: Store> Model for LockedVault<B, V> {
 
     ghost view = { λ l. record { vault = l.vault; seen = l.note.seen } };
 
-    ghost invariant = { λ l. IsVaultNote B.begun l.note × IsTold V.Store B.began B.begun l.vault l.note.seen
+    ghost invariant = { λ l. IsVaultNote (homed H.table B.begun) l.note × IsTold V.Store B.began B.begun l.vault l.note.seen
         × FromEach B.begun (λ s p. p.core.system.first ≡ l.first) };
 }
 
@@ -100,7 +102,7 @@ impl<V: Store> Tells<Vault<V>, Mark> for Flushing<V> {
 }
 
 // Under which client the store fails, and the system that it stops. Each call picks both.
-trait Halt {
+pub(crate) trait Halt {
     ghost use Rattle.std.specs.Prelude.{ℕ};
     ghost use Rattle.dali_runs.specs.State.{SystemState};
 
@@ -130,18 +132,18 @@ impl<V: Store, D: Halt> Tells<Vault<V>, Mark> for Failing<V, D> {
 
 // ---- steps
 // Takes the records that wait as a frame, those of the client among them.
-fn take<B: Beginning + VaultBeginning<V>, V: Store>(
-    system: &mut LockedSystem<B>,
+fn take<B: Beginning + VaultBeginning<V>, H: Home, V: Store>(
+    system: &mut LockedSystem<B, H>,
     notes: &Notes<Mark, OfRound<B>>,
-    client: &mut ClientNote<B>,
+    client: &mut ClientNote<B, H>,
     vault: &Vault<V>,
     note: &mut Note<Mark, OfRound<B>>,
     alloc: Global,
 ) -> Result<Frame, OutOfMemory>
-    requires home { (notes.now.table ≡ B.begun.table) × IsVaultNote B.begun note.old }
+    requires home { (notes.now.table ≡ H.table) × IsVaultNote (homed H.table B.begun) note.old }
     requires told { IsTold V.Store B.began B.begun vault.now note.old.seen }
     requires runs { vault.now.stopped ≡ false }
-    ensures home { IsVaultNote B.begun note.new }
+    ensures home { IsVaultNote (homed H.table B.begun) note.new }
     ensures client { client.new ≡ client.old }
     ensures frame { IfOk result (λ f. FromEach B.begun (λ s p. HasFrame V.Store B.began s p (outset B.begun s p) f vault.now note.new.seen)) }
     ensures all { OnOk result (AllAreTaken B.begun client.old.seen note.new.seen) }
@@ -154,14 +156,14 @@ fn take<B: Beginning + VaultBeginning<V>, V: Store>(
 }
 
 // The frame is flushed.
-fn tell_flush<B: Beginning + VaultBeginning<V>, V: Store>(
+fn tell_flush<B: Beginning + VaultBeginning<V>, H: Home, V: Store>(
     notes: &Notes<Mark, OfRound<B>>,
     vault: &Vault<V>,
     note: &mut Note<Mark, OfRound<B>>,
 )
-    requires home { (notes.now.table ≡ B.begun.table) × IsVaultNote B.begun note.old }
+    requires home { (notes.now.table ≡ H.table) × IsVaultNote (homed H.table B.begun) note.old }
     requires written { (f : Framed) × (v : Vaulted V) × FromEach B.begun (λ s p. HasWritten V.Store B.began s p (outset B.begun s p) f v vault.now note.old.seen) }
-    ensures home { IsVaultNote B.begun note.new }
+    ensures home { IsVaultNote (homed H.table B.begun) note.new }
     ensures told { IsTold V.Store B.began B.begun vault.now note.new.seen }
     ensures all { FromEach B.begun (λ s p. taken_to (core_told (outset B.begun s p) note.old.seen).system ≤ stable (core_told (outset B.begun s p) note.new.seen)) }
 {
@@ -169,17 +171,17 @@ fn tell_flush<B: Beginning + VaultBeginning<V>, V: Store>(
 }
 
 // Its flush met a fault: the system stops.
-fn tell_fault<B: Beginning + VaultBeginning<V>, V: Store, D: Halt>(
-    system: &mut LockedSystem<B>,
+fn tell_fault<B: Beginning + VaultBeginning<V>, H: Home, V: Store, D: Halt>(
+    system: &mut LockedSystem<B, H>,
     notes: &Notes<Mark, OfRound<B>>,
-    client: &mut ClientNote<B>,
+    client: &mut ClientNote<B, H>,
     vault: &Vault<V>,
     note: &mut Note<Mark, OfRound<B>>,
 )
-    requires home { (notes.now.table ≡ B.begun.table) × IsVaultNote B.begun note.old }
+    requires home { (notes.now.table ≡ H.table) × IsVaultNote (homed H.table B.begun) note.old }
     requires fault { (f : Framed) × (v : Vaulted V) × FromEach B.begun (λ s p. HasFault V.Store B.began s p (outset B.begun s p) f v vault.now note.old.seen) }
     requires picked { (D.client ≡ client.old.id) × (D.was ≡ system.old.served.state) }
-    ensures home { IsVaultNote B.begun note.new }
+    ensures home { IsVaultNote (homed H.table B.begun) note.new }
     ensures told { IsTold V.Store B.began B.begun vault.now note.new.seen }
     ensures stops { HasStopped B.begun client.old client.new }
 {
@@ -187,33 +189,33 @@ fn tell_fault<B: Beginning + VaultBeginning<V>, V: Store, D: Halt>(
     notes.add_three::<Vault<V>, Failing<V, D>>(&mut client.note, &mut system.note, note, vault);
 }
 
-fn fail<B: Beginning + VaultBeginning<V>, V: Store>(
-    system: &mut LockedSystem<B>,
+fn fail<B: Beginning + VaultBeginning<V>, H: Home, V: Store>(
+    system: &mut LockedSystem<B, H>,
     notes: &Notes<Mark, OfRound<B>>,
-    client: &mut ClientNote<B>,
+    client: &mut ClientNote<B, H>,
     vault: &Vault<V>,
     note: &mut Note<Mark, OfRound<B>>,
 )
-    requires home { (notes.now.table ≡ B.begun.table) × IsVaultNote B.begun note.old }
+    requires home { (notes.now.table ≡ H.table) × IsVaultNote (homed H.table B.begun) note.old }
     requires fault { (f : Framed) × (v : Vaulted V) × FromEach B.begun (λ s p. HasFault V.Store B.began s p (outset B.begun s p) f v vault.now note.old.seen) }
-    ensures home { IsVaultNote B.begun note.new }
+    ensures home { IsVaultNote (homed H.table B.begun) note.new }
     ensures told { IsTold V.Store B.began B.begun vault.now note.new.seen }
     ensures stops { HasStopped B.begun client.old client.new }
 {
-    tell_fault::<B, V, Brand>(system, notes, client, vault, note);
+    tell_fault::<B, H, V, Brand>(system, notes, client, vault, note);
 }
 
 // Flushes the frame that was taken.
-fn flush_frame<B: Beginning + VaultBeginning<V>, V: Store>(
+fn flush_frame<B: Beginning + VaultBeginning<V>, H: Home, V: Store>(
     notes: &Notes<Mark, OfRound<B>>,
     vault: &mut Vault<V>,
     note: &mut Note<Mark, OfRound<B>>,
     frame: &Frame,
 ) -> Result<(), VaultError>
-    requires home { (notes.now.table ≡ B.begun.table) × IsVaultNote B.begun note.old }
+    requires home { (notes.now.table ≡ H.table) × IsVaultNote (homed H.table B.begun) note.old }
     requires frame { FromEach B.begun (λ s p. HasFrame V.Store B.began s p (outset B.begun s p) frame.now vault.old note.old.seen) }
     requires runs { (vault.old.stopped ≡ false) × (vault.old.end < 2 ^ 62) }
-    ensures home { IsVaultNote B.begun note.new }
+    ensures home { IsVaultNote (homed H.table B.begun) note.new }
     ensures told { OnOk result (IsTold V.Store B.began B.begun vault.new note.new.seen) }
     ensures all { OnOk result (FromEach B.begun (λ s p. taken_to (core_told (outset B.begun s p) note.old.seen).system ≤ stable (core_told (outset B.begun s p) note.new.seen))) }
     ensures err { OnErr result ((result ≡ Err Fault) × (note.new ≡ note.old)) }
@@ -221,7 +223,7 @@ fn flush_frame<B: Beginning + VaultBeginning<V>, V: Store>(
 {
     match called::flush(vault, frame) {
         Ok(_) => {
-            tell_flush::<B, V>(notes, vault, note);
+            tell_flush::<B, H, V>(notes, vault, note);
             Ok(())
         }
         Err(error) => Err(error),
@@ -229,19 +231,20 @@ fn flush_frame<B: Beginning + VaultBeginning<V>, V: Store>(
 }
 
 // Takes the records that wait and flushes them under both locks, without memory.
-fn flush_both<B: Beginning + VaultBeginning<V>, V: Store>(
-    system: &mut LockedSystem<B>,
+pub(crate) fn flush_both<B: Beginning + VaultBeginning<V>, H: Home, V: Store>(
+    system: &mut LockedSystem<B, H>,
     notes: &Notes<Mark, OfRound<B>>,
-    client: &mut ClientNote<B>,
+    client: &mut ClientNote<B, H>,
     vault: &mut Vault<V>,
     note: &mut Note<Mark, OfRound<B>>,
 ) -> Result<(), VaultError>
-    requires home { (notes.now.table ≡ B.begun.table) × IsVaultNote B.begun note.old }
+    requires home { (notes.now.table ≡ H.table) × IsVaultNote (homed H.table B.begun) note.old }
     requires told { IsTold V.Store B.began B.begun vault.old note.old.seen }
     requires runs { (vault.old.stopped ≡ false) × (vault.old.end < 2 ^ 62) }
-    ensures home { IsVaultNote B.begun note.new }
+    ensures home { IsVaultNote (homed H.table B.begun) note.new }
     ensures told { IsTold V.Store B.began B.begun vault.new note.new.seen }
     ensures ok { OnOk result ((client.new ≡ client.old) × AllAreDurable B.begun client.old.seen note.new.seen) }
+    ensures taken { OnOk result ((system.new.served.state ≡ taken system.old.served.state) × (vault.new.stopped ≡ false) × (vault.new.current ≡ vault.old.current)) }
     ensures fault { OnErr result ((result ≡ Err Fault) × HasStopped B.begun client.old client.new) }
 {
     notes.meet(&mut system.note, &mut client.note);
@@ -250,11 +253,11 @@ fn flush_both<B: Beginning + VaultBeginning<V>, V: Store>(
     notes.add_both::<System, Taken>(note, &mut system.note, &system.system);
     match flushed {
         Ok(_) => {
-            tell_flush::<B, V>(notes, vault, note);
+            tell_flush::<B, H, V>(notes, vault, note);
             Ok(())
         }
         Err(error) => {
-            fail::<B, V>(system, notes, client, vault, note);
+            fail::<B, H, V>(system, notes, client, vault, note);
             Err(error)
         }
     }
@@ -268,15 +271,15 @@ fn is_below(number: u64, first: u64, flushed: u64) -> bool
     number < first || number - first < flushed
 }
 
-impl<B: Beginning + VaultBeginning<V>, V: Store> LockedVault<B, V> {
+impl<B: Beginning + VaultBeginning<V>, H: Home, V: Store> LockedVault<B, H, V> {
     /// The vault where the notes are made, over a system that was made where so many records stood.
     pub fn new(
         alloc: Global,
         vault: Vault<V>,
         first: u64,
         note: Note<Mark, OfRound<B>>,
-    ) -> LockedVault<B, V>
-        requires note { IsVaultNote B.begun note }
+    ) -> LockedVault<B, H, V>
+        requires note { IsVaultNote (homed H.table B.begun) note }
         requires told { IsTold V.Store B.began B.begun vault note.seen }
         requires first { FromEach B.begun (λ s p. p.core.system.first ≡ first) }
         ensures { result ≡ record { vault = vault; seen = note.seen } }
@@ -286,13 +289,14 @@ impl<B: Beginning + VaultBeginning<V>, V: Store> LockedVault<B, V> {
             first,
             alloc,
             note,
+            home: PhantomData,
         }
     }
 
     /// The vault, and its note.
     pub fn into_parts(self) -> (Vault<V>, Note<Mark, OfRound<B>>)
         ensures parts { (result.0 ≡ self.vault) × (result.1.seen ≡ self.seen) }
-        ensures note { IsVaultNote B.begun result.1 }
+        ensures note { IsVaultNote (homed H.table B.begun) result.1 }
         ensures told { IsTold V.Store B.began B.begun result.0 result.1.seen }
     {
         let LockedVault {
@@ -300,6 +304,7 @@ impl<B: Beginning + VaultBeginning<V>, V: Store> LockedVault<B, V> {
             first: _,
             alloc: _,
             note,
+            home: _,
         } = self;
         (vault, note)
     }
@@ -308,10 +313,10 @@ impl<B: Beginning + VaultBeginning<V>, V: Store> LockedVault<B, V> {
     pub fn acknowledge(
         &mut self,
         notes: &Notes<Mark, OfRound<B>>,
-        client: &mut ClientNote<B>,
+        client: &mut ClientNote<B, H>,
         number: u64,
     ) -> bool
-        requires home { notes.now.table ≡ B.begun.table }
+        requires home { notes.now.table ≡ H.table }
         ensures yes { result ≡ true → Knows B.begun (IsDurable number) client.new }
         ensures no { result ≡ false → Of B.begun (λ o T. stable (core_told o T) ≤ number) self.old.seen × (client.new ≡ client.old) }
         ensures client { (client.new.id ≡ client.old.id) × IsSeen client.new.seen (client_note B.begun.count client.old.id) client.old.seen }
@@ -332,10 +337,10 @@ impl<B: Beginning + VaultBeginning<V>, V: Store> LockedVault<B, V> {
         &mut self,
         rt: &R,
         notes: &Notes<Mark, OfRound<B>>,
-        system: &Mutex<LockedSystem<B>>,
-        client: &mut ClientNote<B>,
+        system: &Mutex<LockedSystem<B, H>>,
+        client: &mut ClientNote<B, H>,
     ) -> Result<(), FlushError>
-        requires home { notes.now.table ≡ B.begun.table }
+        requires home { notes.now.table ≡ H.table }
         ensures ok { OnOk result ((client.new ≡ client.old) × AllAreDurable B.begun client.old.seen self.new.seen) }
         ensures err { IfErr result (λ e. SeesFault B.begun e client.old client.new) }
         ensures stopped { self.old.vault.stopped ≡ true → (result ≡ Err (OfStore Stopped)) × (self.new ≡ self.old) }
@@ -349,7 +354,7 @@ impl<B: Beginning + VaultBeginning<V>, V: Store> LockedVault<B, V> {
         if self.vault.end() >= 1 << 62 {
             return Err(FlushError::Unfit);
         }
-        let taken = take::<B, V>(
+        let taken = take::<B, H, V>(
             &mut *system.lock(rt),
             notes,
             client,
@@ -359,10 +364,10 @@ impl<B: Beginning + VaultBeginning<V>, V: Store> LockedVault<B, V> {
         );
         match taken {
             Ok(frame) => {
-                match flush_frame::<B, V>(notes, &mut self.vault, &mut self.note, &frame) {
+                match flush_frame::<B, H, V>(notes, &mut self.vault, &mut self.note, &frame) {
                     Ok(()) => Ok(()),
                     Err(cause) => {
-                        fail::<B, V>(
+                        fail::<B, H, V>(
                             &mut *system.lock(rt),
                             notes,
                             client,
@@ -373,7 +378,7 @@ impl<B: Beginning + VaultBeginning<V>, V: Store> LockedVault<B, V> {
                     }
                 }
             }
-            Err(_) => match flush_both::<B, V>(
+            Err(_) => match flush_both::<B, H, V>(
                 &mut *system.lock(rt),
                 notes,
                 client,
@@ -389,15 +394,15 @@ impl<B: Beginning + VaultBeginning<V>, V: Store> LockedVault<B, V> {
 
 /// Answers once the record with this number is flushed, by the client or along with the frame of another one: who waits for the
 /// vault's lock finds its record flushed by the next one. It fails as `write_out`.
-pub fn make_durable<B: Beginning + VaultBeginning<V>, V: Store, R: Wait>(
+pub fn make_durable<B: Beginning + VaultBeginning<V>, H: Home, V: Store, R: Wait>(
     rt: &R,
     notes: &Notes<Mark, OfRound<B>>,
-    vault: &Mutex<LockedVault<B, V>>,
-    system: &Mutex<LockedSystem<B>>,
-    client: &mut ClientNote<B>,
+    vault: &Mutex<LockedVault<B, H, V>>,
+    system: &Mutex<LockedSystem<B, H>>,
+    client: &mut ClientNote<B, H>,
     number: u64,
 ) -> Result<(), FlushError>
-    requires home { notes.now.table ≡ B.begun.table }
+    requires home { notes.now.table ≡ H.table }
     requires logged { Knows B.begun (IsLogged number) client.old }
     ensures ok { OnOk result (Knows B.begun (IsDurable number) client.new) }
     ensures seen { OnOk result ((client.new.id ≡ client.old.id) × IsSeen client.new.seen (client_note B.begun.count client.old.id) client.old.seen) }

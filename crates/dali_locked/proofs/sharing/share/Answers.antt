@@ -13,8 +13,8 @@ share_regions-requires-clause-told g c κs within =
 
 pub new-vault-requires-clause-told : goal.new-vault-requires-clause-told
 new-vault-requires-clause-told g c κs within =
-    let fresh = subst (AreFresh g.B.Beginning.begun.table 0) c.in-Some-Some.ensures.items c.share_regions.ensures.fresh.0 in
+    let fresh = subst (AreFresh g.H.Home.table 0) c.in-Some-Some.ensures.items c.share_regions.ensures.fresh.0 in
     subst (λ (T : History). IsTold g.V.Store g.B.VaultBeginning.began g.B.Beginning.begun c.args.core.vault T)
-    (sym (fresh_last g.B.Beginning.begun.table 0 c.pop.new.self.items c.in-Some-Some.of_vault fresh).2)
+    (sym (fresh_last g.H.Home.table 0 c.pop.new.self.items c.in-Some-Some.of_vault fresh).2)
     (vault_begins g.V.Store g.B.VaultBeginning.began g.B.Beginning.begun g.met.V.Store.only_now
     c.args.core.regions.items c.args.core.system.state c.args.core.vault c.requires.begins c.requires.began).told

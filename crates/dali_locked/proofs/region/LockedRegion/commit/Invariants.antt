@@ -2,8 +2,8 @@ use Rattle.dali_calls.specs.Plans.{is_back}
 use Rattle.dali_locked.specs.Regions.{logged_item, freed_item}
 use Rattle.dali_locked.proofs.region.LockedRegion.commit.Given as goal
 
-abbrev pub ghosts-commit_as-D-RegionItem : goal.ghosts-commit_as-D-RegionItem
-ghosts-commit_as-D-RegionItem g a = record { item = logged_item a.client.now.id (is_back a.plan.now) a.plan.now.txn a.plan.now.operation a.system.now.served.state }
+abbrev pub ghosts-log : goal.ghosts-log
+ghosts-log g a = record { item = logged_item a.id (is_back a.plan.now) a.plan.now.txn a.plan.now.operation a.system.now.state }
 
-abbrev pub ghosts-commit_as-E-RegionItem : goal.ghosts-commit_as-E-RegionItem
-ghosts-commit_as-E-RegionItem g a = record { item = freed_item a.client.now.id a.self.now.number }
+abbrev pub ghosts-tell_both : goal.ghosts-tell_both
+ghosts-tell_both g a = record { item = freed_item a.id a.about.now }

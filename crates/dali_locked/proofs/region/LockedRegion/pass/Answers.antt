@@ -3,7 +3,7 @@ use Rattle.dali_region.specs.State.{RegionState, checked}
 use Rattle.dali_notes.specs.History.{IsSeen, Added, Sight, MayAdd}
 use Rattle.dali_concurrent.specs.Entries.{At, Passed, client_note, region_note}
 use Rattle.dali_concurrent.specs.Told.{Item, plain}
-use Rattle.dali_locked.specs.Begun.{Of, may_add}
+use Rattle.dali_locked.specs.Begun.{Of, may_add, homed}
 use Rattle.dali_locked.specs.Sights.{ClientSight, RegionSight, region_sight}
 use Rattle.dali_locked.specs.Regions.{RegionKept, IsOpenAudit, HasPassed, pass_item}
 use Rattle.dali_locked.proofs.RegionAdding.{led_on, met_seen, met_is, still_noted, kept_of, kept_meets}
@@ -15,11 +15,11 @@ returns-then-begin-self-clause-later g c =
     λ e.
     let s = c.self.inside in
     subst (λ (z : RegionSight). (n : ℕ) × (c.args.begin ≤ n) × (i : ℕ) × (k : List ℕ) × (right : Bool) × At (plain z.seen) i (k, Passed z.number n right)) c.self.view_is
-    (last_pass g.B.Beginning.begun s.note.table s.note.number (record { number = s.number; steps = s.steps; audits = s.audits; region = s.region; seen = s.note.seen }) c.args.begin c.self.invariant c.if-begin-self.true)
+    (last_pass (homed g.H.Home.table g.B.Beginning.begun) s.note.table s.note.number (record { number = s.number; steps = s.steps; audits = s.audits; region = s.region; seen = s.note.seen }) c.args.begin c.self.invariant c.if-begin-self.true)
 
 pub tell_pass-requires-clause-may : goal.tell_pass-requires-clause-may
 tell_pass-requires-clause-may g c κs within =
-    let b = g.B.Beginning.begun in
+    let b = (homed g.H.Home.table g.B.Beginning.begun) in
     let s = c.self.inside in
     let x : RegionSight = record { number = s.number; steps = s.steps; audits = s.audits; region = s.region; seen = s.note.seen } in
     let seen : IsSeen c.meet.new.note.seen (region_note x.number) x.seen = met_seen b s.note c.meet.new.note x c.self.invariant c.meet.ensures.seen in
@@ -37,7 +37,7 @@ tell_pass-requires-clause-may g c κs within =
 
 pub invariant_of-self : goal.invariant_of-self
 invariant_of-self g c =
-    let b = g.B.Beginning.begun in
+    let b = (homed g.H.Home.table g.B.Beginning.begun) in
     let s = c.self.inside in
     let x : RegionSight = record { number = s.number; steps = s.steps; audits = s.audits; region = s.region; seen = s.note.seen } in
     let seen : IsSeen c.meet.new.note.seen (region_note x.number) x.seen = met_seen b s.note c.meet.new.note x c.self.invariant c.meet.ensures.seen in
@@ -61,12 +61,12 @@ invariant_of-witness g c =
     let was = c.meet.ensures.other in (
       c.meet-2.ensures.table ∙ (ap (λ (n : Sight Item). n.table) was ∙ c.witness.invariant.0),
       c.meet-2.ensures.number ∙ (ap (λ (n : Sight Item). n.number) was ∙ c.witness.invariant.1),
-      led_on g.B.Beginning.begun c.witness.inside.note.seen c.meet-2.new.note.seen c.witness.invariant.2 c.meet-2.ensures.all,
+      led_on (homed g.H.Home.table g.B.Beginning.begun) c.witness.inside.note.seen c.meet-2.new.note.seen c.witness.invariant.2 c.meet-2.ensures.all,
     )
 
 pub returns-clause-tells : goal.returns-clause-tells
 returns-clause-tells g c =
-    let b = g.B.Beginning.begun in
+    let b = (homed g.H.Home.table g.B.Beginning.begun) in
     let s = c.self.inside in
     let x : RegionSight = record { number = s.number; steps = s.steps; audits = s.audits; region = s.region; seen = s.note.seen } in
     let seen : IsSeen c.meet.new.note.seen (region_note x.number) x.seen = met_seen b s.note c.meet.new.note x c.self.invariant c.meet.ensures.seen in
@@ -86,7 +86,7 @@ returns-clause-tells g c =
 
 pub returns-clause-told : goal.returns-clause-told
 returns-clause-told g c =
-    let b = g.B.Beginning.begun in
+    let b = (homed g.H.Home.table g.B.Beginning.begun) in
     let s = c.self.inside in
     let x : RegionSight = record { number = s.number; steps = s.steps; audits = s.audits; region = s.region; seen = s.note.seen } in
     let seen : IsSeen c.meet.new.note.seen (region_note x.number) x.seen = met_seen b s.note c.meet.new.note x c.self.invariant c.meet.ensures.seen in

@@ -1,5 +1,5 @@
 use Rattle.dali_locked.specs.Regions.{stray_item}
 use Rattle.dali_locked.proofs.region.LockedRegion.poke.Given as goal
 
-abbrev pub ghosts-poke_as : goal.ghosts-poke_as
-ghosts-poke_as g a = record { item = stray_item a.client.now.id a.self.now.number a.word a.mask }
+abbrev pub ghosts-tell_both : goal.ghosts-tell_both
+ghosts-tell_both g a = record { item = stray_item a.id a.about.now.0 a.about.now.1 a.about.now.2 }

@@ -10,7 +10,7 @@ use Rattle.dali_transcripts.specs.World.{Logs}
 use Rattle.dali_notes.specs.History.{MayAdd, Added, Sight}
 use Rattle.dali_concurrent.specs.Entries.{Did}
 use Rattle.dali_concurrent.specs.Told.{OnSystem, Item}
-use Rattle.dali_locked.specs.Begun.{Begun, may_add, outset}
+use Rattle.dali_locked.specs.Begun.{Begun, may_add, outset, homed}
 use Rattle.dali_locked.specs.Sights.{ClientSight, HasLogged, Knows}
 use Rattle.dali_locked.specs.SystemSteps.{Resting, Takes}
 use Rattle.dali_locked.proofs.SystemTelling.{Hands, may_tell, known, client_kept, system_kept, has_begun, logged_there}
@@ -26,7 +26,7 @@ same_item c t u z w e f = ap (λ v. item c v z.state) (sym e) ∙ ap (λ (v : Se
 
 pub tell-requires-clause-may : goal.tell-requires-clause-may
 tell-requires-clause-may g c κs within =
-    let b = g.B.Beginning.begun in
+    let b = (homed g.H.Home.table g.B.Beginning.begun) in
     let x = c.client.inside.note in
     let y = c.self.inside.note in
     let st : SystemState = c.self.inside.system.state in
@@ -36,7 +36,7 @@ tell-requires-clause-may g c κs within =
 
 module _ (g : given.Over) (c : goal.After-tell g) where
   abbrev b : Begun
-  b = g.B.Beginning.begun
+  b = (homed g.H.Home.table g.B.Beginning.begun)
 
   abbrev x : Sight Item
   x = c.client.inside.note

@@ -25,7 +25,7 @@ use Rattle.dali_notes.specs.History.{MayAdd, Added, Sight}
 use Rattle.dali_concurrent.specs.Entries.{Did}
 use Rattle.dali_concurrent.specs.Told.{Leaves, OnSystem, Item}
 use Rattle.dali_concurrent.specs.Own.{HasOnly}
-use Rattle.dali_locked.specs.Begun.{Begun, may_add, outset, FromEach, Of}
+use Rattle.dali_locked.specs.Begun.{Begun, may_add, outset, FromEach, Of, homed}
 use Rattle.dali_locked.specs.Sights.{ClientSight, HasLogged, Knows}
 use Rattle.dali_locked.specs.SystemSteps.{Resting, Driving, Asking, GoesOn, Keeps, Takes, TakesClaim, LetsGo, LetsClaim, Settling, MayEnd, HasGone, Auditing, PassesTold, Cleaning, MayGiveBack, NotChecking, Checking, HasJust, given_in, given as given_by, deed_of}
 use Rattle.dali_locked.proofs.SystemTelling.{Hands, may_tell, known, client_kept, system_kept, system_met, met, met_kept, has_still, has_begun, has_ended, has_claimed, has_let, logged_there}
@@ -36,7 +36,7 @@ use Rattle.dali_locked.proofs.system.LockedSystem.begin_audit.Goals as goal
 
 pub tell-requires-clause-may : goal.tell-requires-clause-may
 tell-requires-clause-may g c κs within =
-    let b = g.B.Beginning.begun in
+    let b = (homed g.H.Home.table g.B.Beginning.begun) in
     let x = c.client.inside.note in
     let y = c.self.inside.note in
     let id : ℕ = c.client.inside.id in
@@ -47,7 +47,7 @@ tell-requires-clause-may g c κs within =
 
 module _ (g : given.Over) (c : goal.After-tell g) where
   abbrev b : Begun
-  b = g.B.Beginning.begun
+  b = (homed g.H.Home.table g.B.Beginning.begun)
 
   abbrev x : Sight Item
   x = c.client.inside.note

@@ -25,7 +25,7 @@ use Rattle.dali_notes.specs.History.{MayAdd, Added, Sight}
 use Rattle.dali_concurrent.specs.Entries.{Did}
 use Rattle.dali_concurrent.specs.Told.{Leaves, OnSystem, Item}
 use Rattle.dali_concurrent.specs.Own.{HasOnly}
-use Rattle.dali_locked.specs.Begun.{Begun, may_add, outset, FromEach, Of}
+use Rattle.dali_locked.specs.Begun.{Begun, may_add, outset, FromEach, Of, homed}
 use Rattle.dali_locked.specs.Sights.{ClientSight, HasLogged, Knows}
 use Rattle.dali_locked.specs.SystemSteps.{Resting, Driving, Asking, GoesOn, Keeps, Takes, TakesClaim, LetsGo, LetsClaim, Settling, MayEnd, HasGone, Auditing, PassesTold, Cleaning, MayGiveBack, NotChecking, Checking, HasJust, given_in, given as given_by, deed_of}
 use Rattle.dali_locked.proofs.SystemTelling.{Hands, may_tell, known, client_kept, system_kept, system_met, met, met_kept, has_still, has_begun, has_ended, has_claimed, has_let, logged_there}
@@ -41,7 +41,7 @@ use Rattle.dali_locked.proofs.system.LockedSystem.commit.Goals as goal
 
 pub tell-requires-clause-may : goal.tell-requires-clause-may
 tell-requires-clause-may g c κs within =
-    let b = g.B.Beginning.begun in
+    let b = (homed g.H.Home.table g.B.Beginning.begun) in
     let x = c.client.inside.note in
     let y = c.self.inside.note in
     let id : ℕ = c.client.inside.id in
@@ -52,7 +52,7 @@ tell-requires-clause-may g c κs within =
 
 module _ (g : given.Over) (c : goal.After-tell g) where
   abbrev b : Begun
-  b = g.B.Beginning.begun
+  b = (homed g.H.Home.table g.B.Beginning.begun)
 
   abbrev x : Sight Item
   x = c.client.inside.note
@@ -98,22 +98,22 @@ returns-clause-receipt g c =
 
 -- ---- it isn't live
 module _ (g : given.Over) (c : goal.After-meet g) where
-  abbrev hands_then : Hands g.B.Beginning.begun c.client.inside.note c.self.inside.note c.client.inside.id c.self.inside.system.state
+  abbrev hands_then : Hands (homed g.H.Home.table g.B.Beginning.begun) c.client.inside.note c.self.inside.note c.client.inside.id c.self.inside.system.state
   hands_then = record { client = c.client.invariant.1; system = c.self.invariant.1; led = c.client.invariant.2; told = c.self.invariant.3 }
 
-  live_then : FromEach g.B.Beginning.begun (λ s p. state_of c.self.inside.system.state c.args.txn ≡ Some Live)
+  live_then : FromEach (homed g.H.Home.table g.B.Beginning.begun) (λ s p. state_of c.self.inside.system.state c.args.txn ≡ Some Live)
   live_then s p from =
-      let hand = met g.B.Beginning.begun c.client.inside.note c.self.inside.note c.client.inside.id c.self.inside.system.state hands_then c.meet.new.note.seen c.meet.ensures.theirs c.meet.ensures.seen c.meet.ensures.all s p from in
-      let rests = resting_now (bases_of s) p (outset g.B.Beginning.begun s p) g.B.Beginning.begun.count c.client.inside.id c.client.inside.note.seen c.self.inside.system.state c.meet.new.note.seen hand c.args.txn
-      (subst (λ (v : ClientSight). Knows g.B.Beginning.begun (Resting v.id c.args.txn) v) (sym c.client.view_is) c.requires.rests s p from) in
-      ap (λ (z : SystemState). state_of z c.args.txn) hand.is ∙ lives_now (bases_of s) p (outset g.B.Beginning.begun s p) g.B.Beginning.begun.count c.client.inside.id c.client.inside.note.seen c.self.inside.system.state c.meet.new.note.seen hand c.args.txn rests.acts
+      let hand = met (homed g.H.Home.table g.B.Beginning.begun) c.client.inside.note c.self.inside.note c.client.inside.id c.self.inside.system.state hands_then c.meet.new.note.seen c.meet.ensures.theirs c.meet.ensures.seen c.meet.ensures.all s p from in
+      let rests = resting_now (bases_of s) p (outset (homed g.H.Home.table g.B.Beginning.begun) s p) (homed g.H.Home.table g.B.Beginning.begun).count c.client.inside.id c.client.inside.note.seen c.self.inside.system.state c.meet.new.note.seen hand c.args.txn
+      (subst (λ (v : ClientSight). Knows (homed g.H.Home.table g.B.Beginning.begun) (Resting v.id c.args.txn) v) (sym c.client.view_is) c.requires.rests s p from) in
+      ap (λ (z : SystemState). state_of z c.args.txn) hand.is ∙ lives_now (bases_of s) p (outset (homed g.H.Home.table g.B.Beginning.begun) s p) (homed g.H.Home.table g.B.Beginning.begun).count c.client.inside.id c.client.inside.note.seen c.self.inside.system.state c.meet.new.note.seen hand c.args.txn rests.acts
 
 pub returns-then-not-is_live-clause-unfit : goal.returns-then-not-is_live-clause-unfit
 returns-then-not-is_live-clause-unfit g c = λ e s p from. absurd (not_both_ways (c.is_live.ensures.told (c.state.ensures ∙ live_then g c s p from)) c.if-not-is_live.true)
 
 pub invariant_of-self : goal.invariant_of-self
-invariant_of-self g c = met_kept g.B.Beginning.begun c.client.inside.note c.self.inside.note c.client.inside.id c.self.inside.system.state (hands_then g c) c.meet.new.note
+invariant_of-self g c = met_kept (homed g.H.Home.table g.B.Beginning.begun) c.client.inside.note c.self.inside.note c.client.inside.id c.self.inside.system.state (hands_then g c) c.meet.new.note
     (c.meet.ensures.table ∙ c.self.invariant.0) c.meet.ensures.number c.meet.ensures.theirs c.meet.ensures.seen c.meet.ensures.all
 
 pub invariant_of-client : goal.invariant_of-client
-invariant_of-client g c = subst (λ (n : Sight Item). (n.table ≡ g.B.Beginning.begun.table) × (n.number ≡ client_note g.B.Beginning.begun.count c.client.inside.id) × Led g.B.Beginning.begun n.seen) (sym c.meet.ensures.other) c.client.invariant
+invariant_of-client g c = subst (λ (n : Sight Item). (n.table ≡ (homed g.H.Home.table g.B.Beginning.begun).table) × (n.number ≡ client_note (homed g.H.Home.table g.B.Beginning.begun).count c.client.inside.id) × Led (homed g.H.Home.table g.B.Beginning.begun) n.seen) (sym c.meet.ensures.other) c.client.invariant

@@ -1,5 +1,5 @@
-use Rattle.std.proofs.Common.{◌≡◌, ℕ, true, false, [], ◌∷◌, Option, Some, None, refl, sym, ap, subst, ◌∙◌}
-use Rattle.std.specs.Prelude.{◌==◌}
+use Rattle.std.proofs.Common.{◌≡◌, ℕ, true, false, not, [], ◌∷◌, Option, Some, None, refl, sym, ap, subst, ◌∙◌}
+use Rattle.std.specs.Prelude.{◌==◌, if◌then◌else◌}
 use Rattle.std.specs.FinMap as map
 use Rattle.dali_geometry.specs.Places.{regions}
 use Rattle.dali_lists.proofs.Numbers.{eqb-self}
@@ -25,18 +25,19 @@ use Rattle.dali_notes.specs.History.{MayAdd, Added, Sight}
 use Rattle.dali_concurrent.specs.Entries.{Did}
 use Rattle.dali_concurrent.specs.Told.{Leaves, OnSystem, Item}
 use Rattle.dali_concurrent.specs.Own.{HasOnly}
-use Rattle.dali_locked.specs.Begun.{Begun, may_add, outset, FromEach, Of}
+use Rattle.dali_locked.specs.Begun.{Begun, may_add, outset, FromEach, Of, homed}
 use Rattle.dali_locked.specs.Sights.{ClientSight, HasLogged, Knows}
-use Rattle.dali_locked.specs.SystemSteps.{Resting, Driving, Asking, GoesOn, Keeps, Takes, TakesClaim, LetsGo, LetsClaim, Settling, MayEnd, HasGone, Auditing, PassesTold, Cleaning, MayGiveBack, NotChecking, Checking, HasJust, given_in, given as given_by, deed_of}
+use Rattle.dali_locked.specs.SystemSteps.{Resting, Driving, Asking, GoesOn, Keeps, Takes, TakesClaim, LetsGo, LetsClaim, StaysAll, StaysBut, Settling, MayEnd, HasGone, Auditing, PassesTold, Cleaning, MayGiveBack, NotChecking, Checking, HasJust, given_in, given as given_by, deed_of}
 use Rattle.dali_locked.proofs.SystemTelling.{Hands, may_tell, known, client_kept, system_kept, system_met, met, met_kept, has_still, has_begun, has_ended, has_claimed, has_let, logged_there}
 use Rattle.dali_locked.proofs.SystemCases.{done_line, done_rests, commit_line, commit_settles, end_line, end_gone}
 use Rattle.dali_locked.proofs.SystemMore.{audit_room, claim_line, claim_cleans, start_line, start_checks, finish_line, finish_ends, meet_line, meet_still, stop_line, audit_line, audit_opened, audit_end_line, claimed_now, give_line, grant_line, grant_drives, busy_line, busy_rests}
+use Rattle.dali_locked.proofs.SystemAside.{resting_aside, driving_aside, resting_met, driving_met, begin_full, audit_full, answer_full, full_of}
 use Rattle.dali_locked.proofs.system.LockedSystem.ended.Given as given
 use Rattle.dali_locked.proofs.system.LockedSystem.ended.Goals as goal
 
 pub tell-requires-clause-may : goal.tell-requires-clause-may
 tell-requires-clause-may g c κs within =
-    let b = g.B.Beginning.begun in
+    let b = (homed g.H.Home.table g.B.Beginning.begun) in
     let x = c.client.inside.note in
     let y = c.self.inside.note in
     let id : ℕ = c.client.inside.id in
@@ -47,7 +48,7 @@ tell-requires-clause-may g c κs within =
 
 module _ (g : given.Over) (c : goal.After-tell g) where
   abbrev b : Begun
-  b = g.B.Beginning.begun
+  b = (homed g.H.Home.table g.B.Beginning.begun)
 
   abbrev x : Sight Item
   x = c.client.inside.note
@@ -93,3 +94,10 @@ returns-clause-receipt g c =
     subst (λ t. Knows (b g c) (HasLogged t (Ended c.args.txn)) (record { id = id g c; seen = c.tell.new.client.seen })) (sym c.in_ok-receipt.ensures.receipt.number)
     (known (b g c) (x g c) (y g c) (id g c) (st g c) (hands g c) (Did (Logs (Ended c.args.txn)) (id g c), OnSystem c.ended.new.self.state, Does (Ends c.args.txn) ∷ []) c.tell.new.client.seen c.tell.ensures.added c.tell.ensures.all (HasLogged (st g c).records (Ended c.args.txn))
     (λ s p from now hand behind. logged_there (bases_of s) p (outset (b g c) s p) (b g c).count (id g c) (x g c).seen (st g c) now hand _ (Ended c.args.txn) _ _))
+
+pub returns-clause-beside : goal.returns-clause-beside
+returns-clause-beside g c =
+    subst (λ (v : ClientSight). StaysBut (b g c) v c.args.txn (record { id = v.id; seen = c.tell.new.client.seen })) c.client.view_is (λ t apart. (
+      λ w. known (b g c) (x g c) (y g c) (id g c) (st g c) (hands g c) (Did (Logs (Ended c.args.txn)) (id g c), OnSystem (ended_logged (st g c) c.args.txn), Does (Ends c.args.txn) ∷ []) c.tell.new.client.seen (added g c) c.tell.ensures.all (Resting (id g c) t) (λ s p from now hand behind. resting_aside (bases_of s) p (outset (b g c) s p) (b g c).count (id g c) (x g c).seen (st g c) now hand (Logs (Ended c.args.txn)) (ended_logged (st g c) c.args.txn) (Ends c.args.txn) behind t (ap not apart) (λ a. refl) (w s p from)),
+      λ q own w. known (b g c) (x g c) (y g c) (id g c) (st g c) (hands g c) (Did (Logs (Ended c.args.txn)) (id g c), OnSystem (ended_logged (st g c) c.args.txn), Does (Ends c.args.txn) ∷ []) c.tell.new.client.seen (added g c) c.tell.ensures.all (Driving (id g c) q) (λ s p from now hand behind. driving_aside (bases_of s) p (outset (b g c) s p) (b g c).count (id g c) (x g c).seen (st g c) now hand (Logs (Ended c.args.txn)) (ended_logged (st g c) c.args.txn) (Ends c.args.txn) behind t (ap not apart) (λ a. refl) q own (w s p from)),
+    ))

@@ -34,7 +34,7 @@ use Rattle.dali_notes.specs.History.{MayAdd, Added, Sight}
 use Rattle.dali_concurrent.specs.Entries.{Did}
 use Rattle.dali_concurrent.specs.Told.{Leaves, OnSystem, Item}
 use Rattle.dali_concurrent.specs.Own.{HasOnly, takes_one}
-use Rattle.dali_locked.specs.Begun.{Begun, may_add, outset, FromEach, Of}
+use Rattle.dali_locked.specs.Begun.{Begun, may_add, outset, FromEach, Of, homed}
 use Rattle.dali_locked.specs.Sights.{ClientSight, HasLogged, Knows}
 use Rattle.dali_locked.specs.SystemSteps.{Resting, Driving, Asking, GoesOn, Keeps, Takes, TakesClaim, LetsGo, LetsClaim, Settling, MayEnd, HasGone, Auditing, PassesTold, Cleaning, MayGiveBack, NotChecking, Checking, HasJust, given_in, given as given_by, deed_of}
 use Rattle.dali_locked.proofs.SystemTelling.{Hands, may_tell, known, client_kept, system_kept, system_met, met, met_kept, has_still, has_begun, has_ended, has_claimed, has_let, logged_there}
@@ -76,7 +76,7 @@ runs_then y x h = by_stop y.stop (runs_on y x h)
 
 pub tell-requires-clause-may : goal.tell-requires-clause-may
 tell-requires-clause-may g c κs within =
-    let b = g.B.Beginning.begun in
+    let b = (homed g.H.Home.table g.B.Beginning.begun) in
     let x = c.client.inside.note in
     let y = c.self.inside.note in
     let id : ℕ = c.client.inside.id in
@@ -98,7 +98,7 @@ dead_of y p h dead o z s now e f = f ∙ (ap is_dead_in e ∙ ap (λ (v : Served
 
 pub tell-requires-in-Busy-clause-may : goal.tell-requires-in-Busy-clause-may
 tell-requires-in-Busy-clause-may g c κs within =
-    let b = g.B.Beginning.begun in
+    let b = (homed g.H.Home.table g.B.Beginning.begun) in
     let x = c.client.inside.note in
     let y = c.self.inside.note in
     let id : ℕ = c.client.inside.id in
@@ -109,7 +109,7 @@ tell-requires-in-Busy-clause-may g c κs within =
 
 module _ (g : given.Over) (c : goal.After-tell g) where
   abbrev b : Begun
-  b = g.B.Beginning.begun
+  b = (homed g.H.Home.table g.B.Beginning.begun)
 
   abbrev x : Sight Item
   x = c.client.inside.note
@@ -150,7 +150,7 @@ returns-in-Granted-clause-keeps g c =
 
 module _ (g : given.Over) (c : goal.After-tell-in-Busy g) where
   abbrev b2 : Begun
-  b2 = g.B.Beginning.begun
+  b2 = (homed g.H.Home.table g.B.Beginning.begun)
 
   abbrev x2 : Sight Item
   x2 = c.client.inside.note

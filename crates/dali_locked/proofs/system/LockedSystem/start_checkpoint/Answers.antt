@@ -26,12 +26,16 @@ use Rattle.dali_concurrent.specs.Entries.{Did, system_note}
 use Rattle.dali_concurrent.specs.Kept.{SystemTold}
 use Rattle.dali_concurrent.specs.Told.{Leaves, OnSystem, Item}
 use Rattle.dali_concurrent.specs.Own.{HasOnly}
-use Rattle.dali_locked.specs.Begun.{Begun, may_add, outset, FromEach, Of, Led}
+use Rattle.dali_locked.specs.Begun.{Begun, may_add, outset, FromEach, Of, Led, homed}
 use Rattle.dali_locked.specs.Sights.{ClientSight, HasLogged, Knows}
 use Rattle.dali_locked.specs.SystemSteps.{Resting, Driving, Asking, GoesOn, Keeps, Takes, TakesClaim, LetsGo, LetsClaim, Settling, MayEnd, HasGone, Auditing, PassesTold, Cleaning, MayGiveBack, NotChecking, Checking, HasJust, given_in, given as given_by, deed_of}
 use Rattle.dali_locked.proofs.SystemTelling.{Hands, may_tell, known, client_kept, system_kept, system_met, met, met_kept, has_still, has_begun, has_ended, has_claimed, has_let, logged_there}
 use Rattle.dali_locked.proofs.SystemCases.{done_line, done_rests, commit_line, commit_settles, end_line, end_gone}
 use Rattle.dali_locked.proofs.SystemMore.{audit_room, claim_line, claim_cleans, start_line, start_checks, finish_line, finish_ends, meet_line, meet_still, stop_line, audit_line, audit_opened, audit_end_line, claimed_now, give_line, grant_line, grant_drives, busy_line, busy_rests}
+use Rattle.dali_concurrent.specs.Stages.{Started}
+use Rattle.dali_locked.specs.HeadKept.{HasStage}
+use Rattle.dali_locked.proofs.SystemLines.{by_both}
+use Rattle.dali_locked.proofs.HeadKept.{start_stage}
 use Rattle.dali_locked.proofs.system.LockedSystem.start_checkpoint.Given as given
 use Rattle.dali_locked.proofs.system.LockedSystem.start_checkpoint.Goals as goal
 
@@ -49,7 +53,7 @@ same_flag y e = ap (λ v. record y { checking = v }) (sym e)
 
 pub tell-requires-clause-may : goal.tell-requires-clause-may
 tell-requires-clause-may g c κs within =
-    let b = g.B.Beginning.begun in
+    let b = (homed g.H.Home.table g.B.Beginning.begun) in
     let x = c.client.inside.note in
     let y = c.self.inside.note in
     let id : ℕ = c.client.inside.id in
@@ -60,7 +64,7 @@ tell-requires-clause-may g c κs within =
 
 pub tell-requires-else-started-clause-may : goal.tell-requires-else-started-clause-may
 tell-requires-else-started-clause-may g c κs within =
-    let b = g.B.Beginning.begun in
+    let b = (homed g.H.Home.table g.B.Beginning.begun) in
     let x = c.client.inside.note in
     let y = c.self.inside.note in
     let id : ℕ = c.client.inside.id in
@@ -70,7 +74,7 @@ tell-requires-else-started-clause-may g c κs within =
 
 module _ (g : given.Over) (c : goal.After-tell g) where
   abbrev b : Begun
-  b = g.B.Beginning.begun
+  b = (homed g.H.Home.table g.B.Beginning.begun)
 
   abbrev x : Sight Item
   x = c.client.inside.note
@@ -109,7 +113,7 @@ returns-then-started-clause-keeps g c =
 
 module _ (g : given.Over) (c : goal.After-tell-else-started g) where
   abbrev b2 : Begun
-  b2 = g.B.Beginning.begun
+  b2 = (homed g.H.Home.table g.B.Beginning.begun)
 
   abbrev x2 : Sight Item
   x2 = c.client.inside.note
@@ -147,3 +151,9 @@ pub returns-else-started-clause-keeps : goal.returns-else-started-clause-keeps
 returns-else-started-clause-keeps g c =
     subst (λ (v : ClientSight). Keeps (b2 g c) v (record { id = v.id; seen = c.tell-else-started.new.client.seen })) c.client.view_is
     (has_still (b2 g c) (x2 g c) (y2 g c) (id2 g c) (st2 g c) (hands2 g c) (Meets UnderWay) Leaves [] c.tell-else-started.new.client.seen c.tell-else-started.ensures.added c.tell-else-started.ensures.all refl)
+
+pub returns-then-started-clause-stage : goal.returns-then-started-clause-stage
+returns-then-started-clause-stage g c = λ started.
+    subst (λ (v : ClientSight). Knows (b g c) (HasStage v.id Started) (record { id = v.id; seen = c.tell.new.client.seen })) c.client.view_is
+    (known (b g c) (x g c) (y g c) (id g c) (st g c) (hands g c) (Did StartsCheckpoint (id g c), OnSystem (in_checkpoint (st g c) true), Starts ∷ []) c.tell.new.client.seen (added g c) c.tell.ensures.all (HasStage (id g c) Started)
+    (λ s p from now hand behind. start_stage (outset (b g c) s p) now (by_both (b g c).count (id g c)) (id g c) (in_checkpoint (st g c) true)))

@@ -1,0 +1,12 @@
+use Rattle.std.specs.Prelude.{[], ◌∷◌}
+use Rattle.dali_record.specs.declared.records.Record.TheVariants.{Done}
+use Rattle.dali_runs.specs.Courses.{Answers}
+use Rattle.dali_crash.specs.Checkpoints.{Does}
+use Rattle.dali_transcripts.specs.World.{Logs}
+use Rattle.dali_concurrent.specs.Entries.{Did}
+use Rattle.dali_concurrent.specs.Told.{OnSystem}
+use Rattle.dali_locked.specs.SystemSteps.{given}
+use Rattle.dali_locked.proofs.system.LockedSystem.done.Given as goal
+
+abbrev pub ghosts-tell : goal.ghosts-tell
+ghosts-tell g a = record { item = (Did (Logs (Done a.about.now.txn a.about.now.call (given a.about.now))) a.id, OnSystem a.after.now.state, Does (Answers a.about.now.txn a.about.now.call (given a.about.now)) ∷ []) }

@@ -1,0 +1,5 @@
+//! Tests of a log in segments.
+#![tactic(auto)]
+
+#[cfg(test)]
+mod tests;
